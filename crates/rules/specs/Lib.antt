@@ -1,0 +1,5 @@
+pub mod Refusals
+pub mod Conditions
+pub mod Compose
+pub mod Plans
+pub mod Judging

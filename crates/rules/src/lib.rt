@@ -1,0 +1,17 @@
+//! Decisions, rules and plans: composing a rule, and judging a plan by the rules.
+
+mod decision;
+mod literal;
+mod refusal;
+mod row;
+mod rule;
+mod verdict;
+
+pub use decision::Decision;
+pub use literal::Literal;
+pub use refusal::Layer;
+pub use refusal::Refusal;
+pub use row::Kind;
+pub use row::Row;
+pub use rule::Rule;
+pub use verdict::Verdict;

@@ -1,0 +1,16 @@
+//! What the judging of a plan answers.
+
+/// A plan is lawful at a cost, or a law that it breaks.
+#[derive(Clone, Copy)]
+pub enum Verdict<M> {
+    /// Lawful, with its cost.
+    Lawful(M),
+    /// This decision is chosen and not active.
+    NotActive(u8),
+    /// This decision is active and not chosen.
+    NotChosen(u8),
+    /// This decision has a value past its size.
+    OutOfRange(u8),
+    /// The forbid rule at this place is met.
+    Forbidden(usize),
+}
