@@ -1,0 +1,3 @@
+pub mod Activity
+pub mod Conditions
+pub mod Lawfulness
