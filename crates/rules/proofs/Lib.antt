@@ -1,3 +1,4 @@
 pub mod Activity
 pub mod Conditions
 pub mod Lawfulness
+pub mod Loops
