@@ -2,3 +2,5 @@ pub mod Activity
 pub mod Conditions
 pub mod Lawfulness
 pub mod Loops
+pub mod Grounds
+pub mod Composing

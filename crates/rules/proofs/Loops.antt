@@ -1,24 +1,20 @@
 -- Loops over a list that stop at the first element which fails a test.
 use mathlib.Core.Bool.{Bool, true, false, _&&_}
-use mathlib.Core.List.{List, [], _∷_}
-use mathlib.Core.Path.{_≡_, refl, sym, ap, _∙_}
-use Prim.Native.Nat.{ℕ, _+_, _<_, _≤_}
+use mathlib.Core.List.{List, _∷_}
+use mathlib.Core.Path.{_≡_, ap, _∙_}
+use Prim.Native.Nat.{ℕ, _+_, _<_}
 use lib.ListN.{length, getD, drop}
-use Rattle.std.proofs.shelf.Lists.{at-drop-more, at-drop-all}
+use Rattle.std.proofs.shelf.Lists.{at-drop-more}
 
--- F says that every element passes t
-module _ {X : Type 0} (F : List X → Bool) (t : X → Bool) (one : (x : X) (xs : List X) → F (x ∷ xs) ≡ (t x && F xs)) where
-  at-place : (xs : List X) (i : ℕ) (d : X) → i < length xs → F (drop i xs) ≡ (t (getD xs i d) && F (drop (i + 1) xs))
-  at-place xs i d l = at-drop-more F xs i d l ∙ one (getD xs i d) (drop (i + 1) xs)
+-- F says that every element passes: the next one by the test b, and those after it by G
+module _ {X : Type 0} (F G : List X → Bool) (b : Bool) (xs : List X) (i : ℕ) (d : X) (one : (ys : List X) → F (getD xs i d ∷ ys) ≡ (b && G ys)) (l : i < length xs) where
+  at-place : F (drop i xs) ≡ (b && G (drop (i + 1) xs))
+  at-place = at-drop-more F xs i d l ∙ one (drop (i + 1) xs)
 
-  -- one that fails
-  pub each-fails : (xs : List X) (i : ℕ) (d : X) → i < length xs → F xs ≡ F (drop i xs) → t (getD xs i d) ≡ false → F xs ≡ false
-  each-fails xs i d l inv h = inv ∙ at-place xs i d l ∙ ap (λ (b : Bool). b && F (drop (i + 1) xs)) h
+  -- it fails
+  pub each-fails : b ≡ false → F (drop i xs) ≡ false
+  each-fails h = at-place ∙ ap (λ (t : Bool). t && G (drop (i + 1) xs)) h
 
-  -- one more that passes
-  pub each-more : (xs : List X) (i : ℕ) (d : X) → i < length xs → F xs ≡ F (drop i xs) → t (getD xs i d) ≡ true → F xs ≡ F (drop (i + 1) xs)
-  each-more xs i d l inv h = inv ∙ at-place xs i d l ∙ ap (λ (b : Bool). b && F (drop (i + 1) xs)) h
-
-  -- all have passed
-  pub each-all : (xs : List X) (i : ℕ) → length xs ≤ i → F xs ≡ F (drop i xs) → F [] ≡ true → F xs ≡ true
-  each-all xs i l inv none = inv ∙ at-drop-all F xs i l ∙ none
+  -- it passes, so the rest decides
+  pub each-more : b ≡ true → F (drop i xs) ≡ G (drop (i + 1) xs)
+  each-more h = at-place ∙ ap (λ (t : Bool). t && G (drop (i + 1) xs)) h

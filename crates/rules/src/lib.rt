@@ -1,5 +1,6 @@
 //! Decisions, rules and plans: composing a rule, and judging a plan by the rules.
 
+mod compose;
 mod decision;
 mod literal;
 mod refusal;
