@@ -4,3 +4,7 @@ pub mod Lawfulness
 pub mod Loops
 pub mod Grounds
 pub mod Composing
+pub mod Tables
+pub mod Reaching
+pub mod ByKind
+pub mod Verdicts

@@ -1,5 +1,5 @@
 -- What the loops of judging find, by outcome.
-use mathlib.Core.Bool.{Bool, true, false, cond}
+use mathlib.Core.Bool.{Bool, true, false, cond, _&&_, _||_}
 use mathlib.Core.List.{List, [], _∷_}
 use mathlib.Core.Path.{_≡_}
 use Prim.Native.Nat.{ℕ, _+_, _<_}
@@ -7,6 +7,8 @@ use lib.Dec.{eqb, ltb}
 use lib.ListN.{getD}
 use Rattle.std.specs.declared.option.Option.{Option}
 use Rattle.std.specs.declared.option.Option.the-variants.{None, Some}
+use Rattle.std.specs.shelf.Lists.{All}
+use Rattle.rules.specs.Compose.{isActivate}
 use Rattle.rules.specs.Conditions.{Plan, met}
 use Rattle.rules.specs.Plans.{Set, sizeAt}
 use Rattle.rules.specs.Refusals.{when}
@@ -36,3 +38,16 @@ FirstMisfit ds s p n (Some x) = (d : ℕ) × (d < n) × ((e : ℕ) → e < d →
 abbrev pub placeFrom : ℕ → List Row → Plan → Option ℕ
 placeFrom n [] p = None
 placeFrom n (r ∷ rs) p = cond (met p r) (Some n) (placeFrom (n + 1) rs p)
+
+-- a set with one more decision
+abbrev pub insert : ℕ → Set → Set
+insert d s x = s x || eqb x d
+
+-- a set, with the targets of the activate rows that a plan meets, row by row
+abbrev pub reached : List Row → Plan → Set → Set
+reached [] p s = s
+reached (r ∷ rs) p s = reached rs p (cond (isActivate (r .kind) && met p r) (insert (r .target) s) s)
+
+-- the target of each activate row is one of the first n decisions
+abbrev pub TargetsBelow : ℕ → List Row → Type 0
+TargetsBelow n rs = All (λ r. isActivate (r .kind) ≡ true → r .target < n) rs

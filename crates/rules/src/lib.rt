@@ -1,8 +1,10 @@
 //! Decisions, rules and plans: composing a rule, and judging a plan by the rules.
 
+mod active;
 mod checks;
 mod compose;
 mod decision;
+mod judging;
 mod literal;
 mod refusal;
 mod row;
@@ -12,6 +14,7 @@ mod verdict;
 pub use checks::check_decisions;
 pub use checks::check_row;
 pub use decision::Decision;
+pub use judging::judge;
 pub use literal::Literal;
 pub use refusal::Layer;
 pub use refusal::Refusal;
