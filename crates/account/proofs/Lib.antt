@@ -1,1 +1,4 @@
 pub mod Formed
+pub mod Meeting
+pub mod Prices
+pub mod Trails
