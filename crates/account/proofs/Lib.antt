@@ -2,3 +2,4 @@ pub mod Formed
 pub mod Meeting
 pub mod Prices
 pub mod Trails
+pub mod Finds

@@ -71,14 +71,14 @@ pub record Left (b : Book) (blame : Set) (es : List Entry) (r : Retreat) : Type 
   -- every decision keeps its value, or is idle and among those that left
   pub each : (x : ℕ) → (chosen (r .stays) x ≡ chosen es x) ⊎ ((chosen (r .stays) x ≡ 0) × ((s : Set) → s x ≡ true → hasAny s (r .left) ≡ true))
   pub distinct : Distinct (b .decisions) (r .stays)
-  pub grounded : Grounded b (r .stays)
+  pub grounded : Grounded b es → Grounded b (r .stays)
 
 -- what a retreat finds: no entry that is blamed, or what it leaves
 abbrev pub Retreated : Book → Set → List Entry → Option Retreat → Type 0
 Retreated b blame es None = (x : ℕ) → 0 < chosen es x → blame x ≡ false
 Retreated b blame es (Some r) = Left b blame es r
 
-module _ (b : Book) (blame : Set) (e : Entry) (es : List Entry) (dis : Distinct (b .decisions) (e ∷ es)) (gr : Grounded b (e ∷ es)) where
+module _ (b : Book) (blame : Set) (e : Entry) (es : List Entry) (dis : Distinct (b .decisions) (e ∷ es)) where
   blamed-first : blame (e .decision) ≡ true → Left b blame (e ∷ es) (record { culprit = e; left = e .decision ∷ []; stays = es })
   blamed-first h =
     record {
@@ -91,12 +91,12 @@ module _ (b : Book) (blame : Set) (e : Entry) (es : List Entry) (dis : Distinct 
           (λ (ne : x ≡ e .decision → ⊥). inl (sym (chosen-other e es x ne)))
           (cases-eq x (e .decision));
       distinct = dis .3;
-      grounded = gr .1;
+      grounded = λ gr. gr .1;
     }
 
-  module _ (no : blame (e .decision) ≡ false) (r : Retreat) (l : Left b blame es r) where
+  module _ (unblamed : blame (e .decision) ≡ false) (r : Retreat) (l : Left b blame es r) where
     apart : (x : ℕ) → blame x ≡ true → x ≡ e .decision → ⊥
-    apart x t q = both-ways (blame x) (rw q no) t
+    apart x t q = both-ways (blame x) (rw q unblamed) t
 
     idle : chosen (r .stays) (e .decision) ≡ 0
     idle = ⊎-elim (λ h. h ∙ dis .0) (λ h. h .0) (l .each (e .decision))
@@ -113,7 +113,7 @@ module _ (b : Book) (blame : Set) (e : Entry) (es : List Entry) (dis : Distinct 
             (λ (ne : x ≡ e .decision → ⊥). ⊎-elim (λ h. inl (h ∙ sym (chosen-other e es x ne))) (λ h. inr (h .0, λ s t. or-right (s (e .decision)) (hasAny s (r .left)) (h .1 s t))) (l .each x))
             (cases-eq x (e .decision));
         distinct = l .distinct;
-        grounded = l .grounded;
+        grounded = λ gr. l .grounded (gr .1);
       }
 
     module _ (apart-from-left : hasAny (e .support) (r .left) ≡ false) where
@@ -133,19 +133,19 @@ module _ (b : Book) (blame : Set) (e : Entry) (es : List Entry) (dis : Distinct 
               (λ (ne : x ≡ e .decision → ⊥). ⊎-elim (λ h. inl (chosen-other e (r .stays) x ne ∙ h ∙ sym (chosen-other e es x ne))) (λ h. inr (chosen-other e (r .stays) x ne ∙ h .0, h .1)) (l .each x))
               (cases-eq x (e .decision));
           distinct = (idle, dis .1, dis .2, l .distinct);
-          grounded = (still (gr .0), l .grounded);
+          grounded = λ gr. (still (gr .0), l .grounded (gr .1));
         }
 
   followed : blame (e .decision) ≡ false → (o : Option Retreat) → Retreated b blame es o → Retreated b blame (e ∷ es) (follow e o)
-  followed no None h =
-    λ x t. ⊎-elim (λ (q : x ≡ e .decision). rw q no) (λ (ne : x ≡ e .decision → ⊥). h x (rw (chosen-other e es x ne) at t)) (cases-eq x (e .decision))
-  followed no (Some r) l =
-    cond-both (hasAny (e .support) (r .left)) (record { culprit = r .culprit; left = e .decision ∷ r .left; stays = r .stays }) (record { culprit = r .culprit; left = r .left; stays = e ∷ r .stays }) (Left b blame (e ∷ es)) (λ t. leaves no r l) (λ t. remains no r l t)
+  followed unblamed None h =
+    λ x t. ⊎-elim (λ (q : x ≡ e .decision). rw q unblamed) (λ (ne : x ≡ e .decision → ⊥). h x (rw (chosen-other e es x ne) at t)) (cases-eq x (e .decision))
+  followed unblamed (Some r) l =
+    cond-both (hasAny (e .support) (r .left)) (record { culprit = r .culprit; left = e .decision ∷ r .left; stays = r .stays }) (record { culprit = r .culprit; left = r .left; stays = e ∷ r .stays }) (Left b blame (e ∷ es)) (λ t. leaves unblamed r l) (λ t. remains unblamed r l t)
 
 -- a retreat leaves what it should
-pub retreated : (b : Book) (blame : Set) (es : List Entry) → Distinct (b .decisions) es → Grounded b es → Retreated b blame es (retreat blame es)
+pub retreated : (b : Book) (blame : Set) (es : List Entry) → Distinct (b .decisions) es → Retreated b blame es (retreat blame es)
 unfolding retreat
-retreated b blame [] dis gr = λ x t. absurd (omega arith)
-retreated b blame (e ∷ es) dis gr =
-    cond-both (blame (e .decision)) (Some (record { culprit = e; left = e .decision ∷ []; stays = es })) (follow e (retreat blame es)) (Retreated b blame (e ∷ es)) (blamed-first b blame e es dis gr)
-    (λ no. followed b blame e es dis gr no (retreat blame es) (retreated b blame es (dis .3) (gr .1)))
+retreated b blame [] dis = λ x t. absurd (omega arith)
+retreated b blame (e ∷ es) dis =
+    cond-both (blame (e .decision)) (Some (record { culprit = e; left = e .decision ∷ []; stays = es })) (follow e (retreat blame es)) (Retreated b blame (e ∷ es)) (blamed-first b blame e es dis)
+    (λ unblamed. followed b blame e es dis unblamed (retreat blame es) (retreated b blame es (dis .3)))
