@@ -3,3 +3,5 @@ pub mod Meeting
 pub mod Prices
 pub mod Trails
 pub mod Finds
+pub mod Tested
+pub mod Shapes
