@@ -5,3 +5,6 @@ pub mod Trails
 pub mod Finds
 pub mod Tested
 pub mod Shapes
+pub mod Sound
+pub mod Actives
+pub mod Steady
