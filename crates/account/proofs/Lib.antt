@@ -8,3 +8,4 @@ pub mod Shapes
 pub mod Sound
 pub mod Actives
 pub mod Steady
+pub mod Changed
