@@ -115,3 +115,153 @@ module _ {C : Type 0} (m : Meaning C) (a : Account C) (s : Sound m a) (fs ts ps 
       best-good = good;
       settled = λ e. absurd (open-settled e);
     }
+
+-- what the test of lawfulness gives, where the targets are known and the plan is idle behind the last decision
+abbrev pub LawfulFromTest : Type 0
+LawfulFromTest =
+    (b : Book) (p : Plan) → All (λ r. r .target < length (b .decisions)) (b .activates) → ((d : ℕ) → length (b .decisions) ≤ d → p d ≡ 0) → isLawful b p ≡ true → Lawful b p
+
+module _ {C : Type 0} where
+  unlessMet-some : (r : Row) (o : Option (Best C)) (b : Best C) → unlessMet r o ≡ Some b → (o ≡ Some b) × (met (b .plan) r ≡ false)
+  unlessMet-some r None b h = absurd (none-some b h)
+  unlessMet-some r (Some c) b h = go (met (c .plan) r) refl h
+    where
+      go : (t : Bool) → met (c .plan) r ≡ t → cond t None (Some c) ≡ Some b → (Some c ≡ Some b) × (met (b .plan) r ≡ false)
+      go true q g = absurd (none-some b g)
+      go false q g = (g, ap (λ (x : Best C). met (x .plan) r) (sym (some-same c b g)) ∙ q)
+
+  unlessMet-same : (r : Row) (o : Option (Best C)) → bestMeets o r ≡ false → unlessMet r o ≡ o
+  unlessMet-same r None h = refl
+  unlessMet-same r (Some c) h = rw h refl
+
+  ifLawful-some : (b : Book) (o : Option (Best C)) (best : Best C) → ifLawful b o ≡ Some best → (o ≡ Some best) × (isLawful b (best .plan) ≡ true)
+  ifLawful-some b None best h = absurd (none-some best h)
+  ifLawful-some b (Some c) best h = go (isLawful b (c .plan)) refl h
+    where
+      go : (t : Bool) → isLawful b (c .plan) ≡ t → cond t (Some c) None ≡ Some best → (Some c ≡ Some best) × (isLawful b (best .plan) ≡ true)
+      go true q g = (g, ap (λ (x : Best C). isLawful b (x .plan)) (sym (some-same c best g)) ∙ q)
+      go false q g = absurd (none-some best g)
+
+  repriced-some : (m : Meaning C) (ps : List Row) (o : Option (Best C)) (b : Best C) → repriced m ps o ≡ Some b → (c : Best C) × (o ≡ Some c) × (b ≡ record { plan = c .plan; cost = cost m ps (c .plan) })
+  repriced-some m ps None b h = absurd (none-some b h)
+  repriced-some m ps (Some c) b h = (c, refl, sym (some-same (record { plan = c .plan; cost = cost m ps (c .plan) }) b h))
+
+-- what a best that meets the rule may not carry does not rest on it
+unmet-if-rests : (x y : Bool) → not (x && y) ≡ true → y ≡ true → x ≡ false
+unmet-if-rests true true h e = sym h
+unmet-if-rests true false h e = absurd (both-ways false refl e)
+unmet-if-rests false y h e = refl
+
+module _ {C : Type 0} (m : Meaning C) (laws : Laws m) (from-test : LawfulFromTest) (a : Account C) (s : Sound m a) where
+  -- no exclusion is kept
+  gone : {P : Type 0} → false ≡ true → P
+  gone h = absurd (both-ways false refl h)
+
+  -- the best, if it is lawful by a book with other activate rules
+  module _ (ts : List Row) (targets : All (λ r. r .target < length (a .book .decisions)) ts) where
+    activates-sound : Sound m (reopened a (ruled (a .book) (a .book .forbids) ts (a .book .prices)) (ifLawful (ruled (a .book) (a .book .forbids) ts (a .book .prices)) (a .best)) (λ e. false))
+    activates-sound =
+      reopened-sound m a s (a .book .forbids) ts (a .book .prices) (record { some-pair = s .known .some-pair; known-targets = targets })
+      (ifLawful (ruled (a .book) (a .book .forbids) ts (a .book .prices)) (a .best)) good (λ e. false) (λ e k p law old. gone k) (λ e k r h. gone k)
+      where
+        good : (b : Best C) → ifLawful (ruled (a .book) (a .book .forbids) ts (a .book .prices)) (a .best) ≡ Some b → Good m (ruled (a .book) (a .book .forbids) ts (a .book .prices)) b
+        good b h =
+            let k = ifLawful-some (ruled (a .book) (a .book .forbids) ts (a .book .prices)) (a .best) b h in
+            let old = s .best-good b (k .0) in
+            record { lawful = from-test (ruled (a .book) (a .book .forbids) ts (a .book .prices)) (b .plan) targets (lawful-idle (a .book) (b .plan) (old .lawful)) (k .1); costs = old .costs }
+
+  -- the best at another price
+  repriced-good : (ps : List Row) (b : Best C) → repriced m ps (a .best) ≡ Some b → Good m (ruled (a .book) (a .book .forbids) (a .book .activates) ps) b
+  repriced-good ps b h =
+    let k = repriced-some m ps (a .best) b h in
+    let old = s .best-good (k .0) (k .1) in
+    rw (k .2) (record { lawful = relawful (a .book) (a .book .forbids) ps (k .0 .plan) (old .lawful) (old .lawful .unforbidden); costs = refl })
+
+  repriced-held : (ps : List Row) → (b : Best C) × (a .best ≡ Some b) → (b : Best C) × (repriced m ps (a .best) ≡ Some b)
+  repriced-held ps h = (record { plan = h .0 .plan; cost = cost m ps (h .0 .plan) }, ap (repriced m ps) (h .1))
+
+  module _ (r : Row) where
+    forbid-added : 1 ≤ length (condition r) → Sound m (added m a Forbid r)
+    unfolding added
+    forbid-added some =
+      reopened-sound m a s (a .book .forbids ++ r ∷ []) (a .book .activates) (a .book .prices)
+      (record { some-pair = all-append (λ w. 1 ≤ length (condition w)) (a .book .forbids) (r ∷ []) (s .known .some-pair) (some, tt); known-targets = s .known .known-targets })
+      (unlessMet r (a .best)) good (λ e. not (bestMeets (a .best) r && e .rests))
+      (λ e k p law old. still (e .rests) p (old (unlawful (a .book) (a .book .forbids ++ r ∷ []) (a .book .prices) p law (all-left (λ w. met p w ≡ false) (a .book .forbids) (r ∷ []) (law .unforbidden)))) k)
+      (λ e k rests h. (h .0, unlessMet-same r (a .best) (unmet-if-rests (bestMeets (a .best) r) (e .rests) k rests) ∙ h .1))
+      where
+        good : (b : Best C) → unlessMet r (a .best) ≡ Some b → Good m (ruled (a .book) (a .book .forbids ++ r ∷ []) (a .book .activates) (a .book .prices)) b
+        good b h =
+            let k = unlessMet-some r (a .best) b h in
+            let old = s .best-good b (k .0) in
+            record {
+              lawful = relawful (a .book) (a .book .forbids ++ r ∷ []) (a .book .prices) (b .plan) (old .lawful) (all-append (λ w. met (b .plan) w ≡ false) (a .book .forbids) (r ∷ []) (old .lawful .unforbidden) (k .1, tt));
+              costs = old .costs;
+            }
+
+        still : (t : Bool) (p : Plan) → RulesOut m a t p → not (bestMeets (a .best) r && t) ≡ true → RulesOut m (reopened a (ruled (a .book) (a .book .forbids ++ r ∷ []) (a .book .activates) (a .book .prices)) (unlessMet r (a .best)) (λ e. not (bestMeets (a .best) r && e .rests))) t p
+        still false p h k = absurd h
+        still true p h k = (h .0, unlessMet-same r (a .best) (unmet-if-rests (bestMeets (a .best) r) true k refl) ∙ h .1, h .2)
+
+    activate-added : r .target < length (a .book .decisions) → Sound m (added m a Activate r)
+    unfolding added
+    activate-added known =
+      activates-sound (a .book .activates ++ r ∷ []) (all-append (λ w. w .target < length (a .book .decisions)) (a .book .activates) (r ∷ []) (s .known .known-targets) (known, tt))
+
+    price-added : Sound m (added m a Price r)
+    unfolding added repriced-held
+    price-added =
+      reopened-sound m a s (a .book .forbids) (a .book .activates) (a .book .prices ++ r ∷ []) (record { some-pair = s .known .some-pair; known-targets = s .known .known-targets })
+      (repriced m (a .book .prices ++ r ∷ []) (a .best)) (repriced-good (a .book .prices ++ r ∷ [])) (λ e. not (bestMeets (a .best) r && e .rests))
+      (λ e k p law old. still (e .rests) p (old (unlawful (a .book) (a .book .forbids) (a .book .prices ++ r ∷ []) p law (law .unforbidden))) k)
+      (λ e k rests h. repriced-held (a .book .prices ++ r ∷ []) h)
+      where
+        still : (t : Bool) (p : Plan) → RulesOut m a t p → not (bestMeets (a .best) r && t) ≡ true → RulesOut m (reopened a (ruled (a .book) (a .book .forbids) (a .book .activates) (a .book .prices ++ r ∷ [])) (repriced m (a .book .prices ++ r ∷ []) (a .best)) (λ e. not (bestMeets (a .best) r && e .rests))) t p
+        still false p h k = absurd h
+        still true p h k =
+            let new = repriced-held (a .book .prices ++ r ∷ []) (h .0, h .1) in
+            let unmet : met (h .0 .plan) r ≡ false = ap (λ (o : Option (Best C)). bestMeets o r) (sym (h .1)) ∙ unmet-if-rests (bestMeets (a .best) r) true k refl in
+            (new .0, new .1,
+              rw (cost-unmet m laws (a .book .prices) r (h .0 .plan) unmet, ← s .best-good (h .0) (h .1) .costs)
+              (laws .transitive (h .0 .cost) (cost m (a .book .prices) p) (cost m (a .book .prices ++ r ∷ []) p) (h .2) (cost-more m laws (a .book .prices) r p)))
+
+  module _ (k : ℕ) where
+    forbid-withdrawn : Sound m (withdrawn m a Forbid k)
+    unfolding withdrawn
+    forbid-withdrawn =
+      reopened-sound m a s (removed (a .book .forbids) k) (a .book .activates) (a .book .prices)
+      (record { some-pair = all-removed (λ w. 1 ≤ length (condition w)) (a .book .forbids) k (s .known .some-pair); known-targets = s .known .known-targets })
+      (a .best) good (λ e. false) (λ e kept p law old. gone kept) (λ e kept rests h. gone kept)
+      where
+        good : (b : Best C) → a .best ≡ Some b → Good m (ruled (a .book) (removed (a .book .forbids) k) (a .book .activates) (a .book .prices)) b
+        good b h =
+            let old = s .best-good b h in
+            record { lawful = relawful (a .book) (removed (a .book .forbids) k) (a .book .prices) (b .plan) (old .lawful) (all-removed (λ w. met (b .plan) w ≡ false) (a .book .forbids) k (old .lawful .unforbidden)); costs = old .costs }
+
+    activate-withdrawn : Sound m (withdrawn m a Activate k)
+    unfolding withdrawn
+    activate-withdrawn = activates-sound (removed (a .book .activates) k) (all-removed (λ w. w .target < length (a .book .decisions)) (a .book .activates) k (s .known .known-targets))
+
+    price-withdrawn : Sound m (withdrawn m a Price k)
+    unfolding withdrawn
+    price-withdrawn =
+      reopened-sound m a s (a .book .forbids) (a .book .activates) (removed (a .book .prices) k) (record { some-pair = s .known .some-pair; known-targets = s .known .known-targets })
+      (repriced m (removed (a .book .prices) k) (a .best)) (repriced-good (removed (a .book .prices) k)) (λ e. not (e .rests))
+      (λ e kept p law old. still (e .rests) p (old (unlawful (a .book) (a .book .forbids) (removed (a .book .prices) k) p law (law .unforbidden))) kept)
+      (λ e kept rests h. absurd (both-ways (e .rests) (not-true (e .rests) kept) rests))
+      where
+        still : (t : Bool) (p : Plan) → RulesOut m a t p → not t ≡ true → RulesOut m (reopened a (ruled (a .book) (a .book .forbids) (a .book .activates) (removed (a .book .prices) k)) (repriced m (removed (a .book .prices) k) (a .best)) (λ e. not (e .rests))) t p
+        still false p h kept = absurd h
+        still true p h kept = gone kept
+
+  -- an accepted rule more
+  pub added-sound : (kind : Kind) (r : Row) → 1 ≤ length (condition r) → (kind ≡ Activate → r .target < length (a .book .decisions)) → Sound m (added m a kind r)
+  added-sound Forbid r some known = forbid-added r some
+  added-sound Activate r some known = activate-added r (known refl)
+  added-sound Price r some known = price-added r
+
+  -- a rule less
+  pub withdrawn-sound : (kind : Kind) (k : ℕ) → Sound m (withdrawn m a kind k)
+  withdrawn-sound Forbid k = forbid-withdrawn k
+  withdrawn-sound Activate k = activate-withdrawn k
+  withdrawn-sound Price k = price-withdrawn k

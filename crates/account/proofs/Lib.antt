@@ -9,3 +9,5 @@ pub mod Sound
 pub mod Actives
 pub mod Steady
 pub mod Changed
+pub mod Histories
+pub mod Reports
