@@ -1,24 +1,24 @@
 -- Active decisions: what a lawful plan makes active, and that a complete trail is lawful.
-use mathlib.Core.Bool.{Bool, true, false, cond, not, _&&_, _||_}
+use mathlib.Core.Bool.{true, false, _||_}
 use mathlib.Core.List.{List, [], _∷_}
-use mathlib.Core.Logic.{_⊎_, inl, inr, ⊎-elim}
-use mathlib.Core.Path.{_≡_, refl, sym, _∙_, ap}
-use Prim.Native.Nat.{ℕ, zero, suc, _≤_, _<_}
+use mathlib.Core.Logic.{inl, inr, ⊎-elim}
+use mathlib.Core.Path.{_≡_, refl, _∙_, ap}
+use Prim.Native.Nat.{ℕ, _<_}
 use native.Mathlib.Omega.{arith}
-use lib.Dec.{eqb, ltb, leb}
+use lib.Dec.{ltb}
 use lib.ListN.{length}
 use Rattle.std.specs.shelf.Lists.{All, Has}
 use Rattle.std.proofs.shelf.Elements.{all-has, all-has-itself, all-weaker}
 use Rattle.std.proofs.shelf.Tests.{cond-true, cond-both, cases-bool, cases-eq, or-left, or-right, ltb-true, ltb-false, lt-ltb}
-use Rattle.rules.specs.Conditions.{Plan, names, condition, met}
-use Rattle.rules.specs.Plans.{Book, Set, Closed, Active, Lawful, within, enables, onAt, sizeAt}
+use Rattle.rules.specs.Conditions.{Plan, met}
+use Rattle.rules.specs.Plans.{Book, Set, Closed, Active, Lawful, within, enables, onAt}
 use Rattle.rules.specs.declared.row.Row.{Row}
 use Rattle.account.specs.Accounts.{Entry, chosen}
-use Rattle.account.specs.Steps.{waits, support, enabledBy}
-use Rattle.account.proofs.Finds.{waits-why, waits-not, enables-has, Enabled, enabled}
+use Rattle.account.specs.Steps.{waits, support}
+use Rattle.account.proofs.Finds.{waits-why, waits-not, enables-has, enabled}
 use Rattle.account.proofs.Formed.{Distinct}
 use Rattle.account.proofs.Meeting.{met-same, met-chosen}
-use Rattle.account.proofs.Trails.{Ground, Grounded, chosen-here, chosen-other, chosen-range, on-known}
+use Rattle.account.proofs.Trails.{Ground, Grounded, chosen-other, chosen-range, on-known}
 
 -- an activate rule that a plan meets, all of whose decisions a closed set has, puts its target into that set
 pub closed-target : (b : Book) (p : Plan) (s : Set) → Closed b p s → (r : Row) → Has (b .activates) r → (q : Plan) → met q r ≡ true → ((x : ℕ) → 0 < q x → (s x ≡ true) × (p x ≡ q x)) → s (r .target) ≡ true

@@ -1,7 +1,7 @@
 -- An accepted change of rules keeps an account sound.
-use mathlib.Core.Bool.{Bool, true, false, cond, not, _&&_, _||_}
+use mathlib.Core.Bool.{Bool, true, false, cond, not, _&&_}
 use mathlib.Core.List.{List, [], _∷_, _++_}
-use mathlib.Core.Logic.{_⊎_, inl, inr, ⊎-elim}
+use mathlib.Core.Logic.{⊎-elim}
 use mathlib.Core.Path.{_≡_, refl, sym, _∙_, ap}
 use Prim.Native.Nat.{ℕ, zero, suc, _≤_, _<_}
 use native.Mathlib.Omega.{arith}
@@ -15,18 +15,17 @@ use Rattle.std.proofs.shelf.Tests.{and-parts, cases-eq, both-ways, not-true}
 use Rattle.measure.specs.Meaning.{Meaning}
 use Rattle.measure.proofs.Laws.{Laws}
 use Rattle.rules.specs.Conditions.{Plan, condition, met}
-use Rattle.rules.specs.Plans.{Book, Set, Active, Lawful, cost, isLawful, sizeAt}
+use Rattle.rules.specs.Plans.{Book, Set, Lawful, cost, isLawful}
 use Rattle.rules.specs.declared.row.Kind.{Kind}
 use Rattle.rules.specs.declared.row.Kind.the-variants.{Forbid, Activate, Price}
 use Rattle.rules.specs.declared.row.Row.{Row}
 use Rattle.account.specs.Accounts.{Account, Exclusion, Best, chosen, emptyBelow}
 use Rattle.account.specs.Changes.{keepIf, reopened, bestMeets, unlessMet, repriced, ifLawful, added, withdrawn}
-use Rattle.account.specs.Law.{Agrees, RulesOut}
+use Rattle.account.specs.Law.{RulesOut}
 use Rattle.account.specs.declared.state.State.the-variants.{Open, Settled}
-use Rattle.account.proofs.Formed.{Formed}
 use Rattle.account.proofs.Meeting.{met-nothing}
 use Rattle.account.proofs.Prices.{cost-unmet, cost-more}
-use Rattle.account.proofs.Sound.{Good, Beaten, Known, Sound}
+use Rattle.account.proofs.Sound.{Good, Known, Sound}
 use Rattle.account.proofs.Tested.{none-some, some-same}
 use Rattle.account.proofs.Trails.{chosen-known, size-known}
 
@@ -45,11 +44,7 @@ keepIf-some test (Some f) e h = go (test f) refl h
     go true q g = (g, ap test (sym (some-same f e g)) ∙ q)
     go false q g = absurd (none-some e g)
 
--- the plan of an empty trail has no value
-idle-plan : Plan
-idle-plan = chosen []
-
-open-settled : Open ≡ Settled → ⊥
+pub open-settled : Open ≡ Settled → ⊥
 open-settled h = let z : _≡_ {A = ℕ} 0 1 = cc in omega arith
 
 -- a book with other rules
@@ -93,28 +88,28 @@ all-removed P xs k h = all-append P (take k xs) (drop (suc k) xs) (all-take P k 
 module _ {C : Type 0} (m : Meaning C) (a : Account C) (s : Sound m a) (fs ts ps : List Row) (known : Known (ruled (a .book) fs ts ps)) (best : Option (Best C)) (good : (b : Best C) → best ≡ Some b → Good m (ruled (a .book) fs ts ps) b) (keep : Exclusion → Bool) (bars : (e : Exclusion) → keep e ≡ true → (p : Plan) → Lawful (ruled (a .book) fs ts ps) p → (Lawful (a .book) p → RulesOut m a (e .rests) p) → RulesOut m (reopened a (ruled (a .book) fs ts ps) best keep) (e .rests) p) (held : (e : Exclusion) → keep e ≡ true → e .rests ≡ true → (b : Best C) × (a .best ≡ Some b) → (b : Best C) × (best ≡ Some b)) where
   stood : (d v : ℕ) (e : Exclusion) → keepIf (λ f. emptyBelow (f .reason) (length (a .book .decisions)) && keep f) (a .exclusions d v) ≡ Some e → (a .exclusions d v ≡ Some e) × (keep e ≡ true) × ((x : ℕ) → e .reason x ≡ true → ⊥)
   stood d v e h =
-    let k = keepIf-some (λ f. emptyBelow (f .reason) (length (a .book .decisions)) && keep f) (a .exclusions d v) e h in
-    let parts = and-parts (emptyBelow (e .reason) (length (a .book .decisions))) (keep e) (k .1) in
-    (k .0, parts .1, λ x t. empty-below (e .reason) (length (a .book .decisions)) x (parts .0) (chosen-known (a .book .decisions) (a .trail) (s .formed .distinct) x (s .formed .reasoned d v e (k .0) x t)) t)
+      let k = keepIf-some (λ f. emptyBelow (f .reason) (length (a .book .decisions)) && keep f) (a .exclusions d v) e h in
+      let parts = and-parts (emptyBelow (e .reason) (length (a .book .decisions))) (keep e) (k .1) in
+      (k .0, parts .1, λ x t. empty-below (e .reason) (length (a .book .decisions)) x (parts .0) (chosen-known (a .book .decisions) (a .trail) (s .formed .distinct) x (s .formed .reasoned d v e (k .0) x t)) t)
 
   pub reopened-sound : Sound m (reopened a (ruled (a .book) fs ts ps) best keep)
   reopened-sound =
-    record {
-      formed =
-          record {
-            distinct = tt;
-            in-range = λ d v e h. s .formed .in-range d v e (stood d v e h .0);
-            reasoned = λ d v e h x t. absurd (stood d v e h .2 x t);
-            free = λ d h. absurd (omega arith);
-          };
-      known = known;
-      grounded = tt;
-      unforbidden = all-weaker (λ r. 1 ≤ length (condition r)) (λ r. met (chosen []) r ≡ false) (λ r some. met-nothing r some (chosen []) (λ x. refl)) fs (known .some-pair);
-      barred = λ d v e h p law has agrees. let k = stood d v e h in bars e (k .1) p law (λ old. s .barred d v e (k .0) p old has (λ x t. absurd (k .2 x t)));
-      resting = λ d v e h r. let k = stood d v e h in held e (k .1) r (s .resting d v e (k .0) r);
-      best-good = good;
-      settled = λ e. absurd (open-settled e);
-    }
+      record {
+        formed =
+            record {
+              distinct = tt;
+              in-range = λ d v e h. s .formed .in-range d v e (stood d v e h .0);
+              reasoned = λ d v e h x t. absurd (stood d v e h .2 x t);
+              free = λ d h. absurd (omega arith);
+            };
+        known = known;
+        grounded = tt;
+        unforbidden = all-weaker (λ r. 1 ≤ length (condition r)) (λ r. met (chosen []) r ≡ false) (λ r some. met-nothing r some (chosen []) (λ x. refl)) fs (known .some-pair);
+        barred = λ d v e h p law has agrees. let k = stood d v e h in bars e (k .1) p law (λ old. s .barred d v e (k .0) p old has (λ x t. absurd (k .2 x t)));
+        resting = λ d v e h r. let k = stood d v e h in held e (k .1) r (s .resting d v e (k .0) r);
+        best-good = good;
+        settled = λ e. absurd (open-settled e);
+      }
 
 -- what the test of lawfulness gives, where the targets are known and the plan is idle behind the last decision
 abbrev pub LawfulFromTest : Type 0
@@ -161,8 +156,8 @@ module _ {C : Type 0} (m : Meaning C) (laws : Laws m) (from-test : LawfulFromTes
   module _ (ts : List Row) (targets : All (λ r. r .target < length (a .book .decisions)) ts) where
     activates-sound : Sound m (reopened a (ruled (a .book) (a .book .forbids) ts (a .book .prices)) (ifLawful (ruled (a .book) (a .book .forbids) ts (a .book .prices)) (a .best)) (λ e. false))
     activates-sound =
-      reopened-sound m a s (a .book .forbids) ts (a .book .prices) (record { some-pair = s .known .some-pair; known-targets = targets })
-      (ifLawful (ruled (a .book) (a .book .forbids) ts (a .book .prices)) (a .best)) good (λ e. false) (λ e k p law old. gone k) (λ e k r h. gone k)
+        reopened-sound m a s (a .book .forbids) ts (a .book .prices) (record { some-pair = s .known .some-pair; known-targets = targets })
+        (ifLawful (ruled (a .book) (a .book .forbids) ts (a .book .prices)) (a .best)) good (λ e. false) (λ e k p law old. gone k) (λ e k r h. gone k)
       where
         good : (b : Best C) → ifLawful (ruled (a .book) (a .book .forbids) ts (a .book .prices)) (a .best) ≡ Some b → Good m (ruled (a .book) (a .book .forbids) ts (a .book .prices)) b
         good b h =
@@ -173,9 +168,9 @@ module _ {C : Type 0} (m : Meaning C) (laws : Laws m) (from-test : LawfulFromTes
   -- the best at another price
   repriced-good : (ps : List Row) (b : Best C) → repriced m ps (a .best) ≡ Some b → Good m (ruled (a .book) (a .book .forbids) (a .book .activates) ps) b
   repriced-good ps b h =
-    let k = repriced-some m ps (a .best) b h in
-    let old = s .best-good (k .0) (k .1) in
-    rw (k .2) (record { lawful = relawful (a .book) (a .book .forbids) ps (k .0 .plan) (old .lawful) (old .lawful .unforbidden); costs = refl })
+      let k = repriced-some m ps (a .best) b h in
+      let old = s .best-good (k .0) (k .1) in
+      rw (k .2) (record { lawful = relawful (a .book) (a .book .forbids) ps (k .0 .plan) (old .lawful) (old .lawful .unforbidden); costs = refl })
 
   repriced-held : (ps : List Row) → (b : Best C) × (a .best ≡ Some b) → (b : Best C) × (repriced m ps (a .best) ≡ Some b)
   repriced-held ps h = (record { plan = h .0 .plan; cost = cost m ps (h .0 .plan) }, ap (repriced m ps) (h .1))
@@ -184,11 +179,11 @@ module _ {C : Type 0} (m : Meaning C) (laws : Laws m) (from-test : LawfulFromTes
     forbid-added : 1 ≤ length (condition r) → Sound m (added m a Forbid r)
     unfolding added
     forbid-added some =
-      reopened-sound m a s (a .book .forbids ++ r ∷ []) (a .book .activates) (a .book .prices)
-      (record { some-pair = all-append (λ w. 1 ≤ length (condition w)) (a .book .forbids) (r ∷ []) (s .known .some-pair) (some, tt); known-targets = s .known .known-targets })
-      (unlessMet r (a .best)) good (λ e. not (bestMeets (a .best) r && e .rests))
-      (λ e k p law old. still (e .rests) p (old (unlawful (a .book) (a .book .forbids ++ r ∷ []) (a .book .prices) p law (all-left (λ w. met p w ≡ false) (a .book .forbids) (r ∷ []) (law .unforbidden)))) k)
-      (λ e k rests h. (h .0, unlessMet-same r (a .best) (unmet-if-rests (bestMeets (a .best) r) (e .rests) k rests) ∙ h .1))
+        reopened-sound m a s (a .book .forbids ++ r ∷ []) (a .book .activates) (a .book .prices)
+        (record { some-pair = all-append (λ w. 1 ≤ length (condition w)) (a .book .forbids) (r ∷ []) (s .known .some-pair) (some, tt); known-targets = s .known .known-targets })
+        (unlessMet r (a .best)) good (λ e. not (bestMeets (a .best) r && e .rests))
+        (λ e k p law old. still (e .rests) p (old (unlawful (a .book) (a .book .forbids ++ r ∷ []) (a .book .prices) p law (all-left (λ w. met p w ≡ false) (a .book .forbids) (r ∷ []) (law .unforbidden)))) k)
+        (λ e k rests h. (h .0, unlessMet-same r (a .best) (unmet-if-rests (bestMeets (a .best) r) (e .rests) k rests) ∙ h .1))
       where
         good : (b : Best C) → unlessMet r (a .best) ≡ Some b → Good m (ruled (a .book) (a .book .forbids ++ r ∷ []) (a .book .activates) (a .book .prices)) b
         good b h =
@@ -206,32 +201,34 @@ module _ {C : Type 0} (m : Meaning C) (laws : Laws m) (from-test : LawfulFromTes
     activate-added : r .target < length (a .book .decisions) → Sound m (added m a Activate r)
     unfolding added
     activate-added known =
-      activates-sound (a .book .activates ++ r ∷ []) (all-append (λ w. w .target < length (a .book .decisions)) (a .book .activates) (r ∷ []) (s .known .known-targets) (known, tt))
+        activates-sound (a .book .activates ++ r ∷ []) (all-append (λ w. w .target < length (a .book .decisions)) (a .book .activates) (r ∷ []) (s .known .known-targets) (known, tt))
 
     price-added : Sound m (added m a Price r)
     unfolding added repriced-held
     price-added =
-      reopened-sound m a s (a .book .forbids) (a .book .activates) (a .book .prices ++ r ∷ []) (record { some-pair = s .known .some-pair; known-targets = s .known .known-targets })
-      (repriced m (a .book .prices ++ r ∷ []) (a .best)) (repriced-good (a .book .prices ++ r ∷ [])) (λ e. not (bestMeets (a .best) r && e .rests))
-      (λ e k p law old. still (e .rests) p (old (unlawful (a .book) (a .book .forbids) (a .book .prices ++ r ∷ []) p law (law .unforbidden))) k)
-      (λ e k rests h. repriced-held (a .book .prices ++ r ∷ []) h)
+        reopened-sound m a s (a .book .forbids) (a .book .activates) (a .book .prices ++ r ∷ []) (record { some-pair = s .known .some-pair; known-targets = s .known .known-targets })
+        (repriced m (a .book .prices ++ r ∷ []) (a .best)) (repriced-good (a .book .prices ++ r ∷ [])) (λ e. not (bestMeets (a .best) r && e .rests))
+        (λ e k p law old. still (e .rests) p (old (unlawful (a .book) (a .book .forbids) (a .book .prices ++ r ∷ []) p law (law .unforbidden))) k)
+        (λ e k rests h. repriced-held (a .book .prices ++ r ∷ []) h)
       where
         still : (t : Bool) (p : Plan) → RulesOut m a t p → not (bestMeets (a .best) r && t) ≡ true → RulesOut m (reopened a (ruled (a .book) (a .book .forbids) (a .book .activates) (a .book .prices ++ r ∷ [])) (repriced m (a .book .prices ++ r ∷ []) (a .best)) (λ e. not (bestMeets (a .best) r && e .rests))) t p
         still false p h k = absurd h
         still true p h k =
             let new = repriced-held (a .book .prices ++ r ∷ []) (h .0, h .1) in
-            let unmet : met (h .0 .plan) r ≡ false = ap (λ (o : Option (Best C)). bestMeets o r) (sym (h .1)) ∙ unmet-if-rests (bestMeets (a .best) r) true k refl in
-            (new .0, new .1,
+            let unmet : met (h .0 .plan) r ≡ false = ap (λ (o : Option (Best C)). bestMeets o r) (sym (h .1)) ∙ unmet-if-rests (bestMeets (a .best) r) true k refl in (
+              new .0,
+              new .1,
               rw (cost-unmet m laws (a .book .prices) r (h .0 .plan) unmet, ← s .best-good (h .0) (h .1) .costs)
-              (laws .transitive (h .0 .cost) (cost m (a .book .prices) p) (cost m (a .book .prices ++ r ∷ []) p) (h .2) (cost-more m laws (a .book .prices) r p)))
+                  (laws .transitive (h .0 .cost) (cost m (a .book .prices) p) (cost m (a .book .prices ++ r ∷ []) p) (h .2) (cost-more m laws (a .book .prices) r p)),
+            )
 
   module _ (k : ℕ) where
     forbid-withdrawn : Sound m (withdrawn m a Forbid k)
     unfolding withdrawn
     forbid-withdrawn =
-      reopened-sound m a s (removed (a .book .forbids) k) (a .book .activates) (a .book .prices)
-      (record { some-pair = all-removed (λ w. 1 ≤ length (condition w)) (a .book .forbids) k (s .known .some-pair); known-targets = s .known .known-targets })
-      (a .best) good (λ e. false) (λ e kept p law old. gone kept) (λ e kept rests h. gone kept)
+        reopened-sound m a s (removed (a .book .forbids) k) (a .book .activates) (a .book .prices)
+        (record { some-pair = all-removed (λ w. 1 ≤ length (condition w)) (a .book .forbids) k (s .known .some-pair); known-targets = s .known .known-targets })
+        (a .best) good (λ e. false) (λ e kept p law old. gone kept) (λ e kept rests h. gone kept)
       where
         good : (b : Best C) → a .best ≡ Some b → Good m (ruled (a .book) (removed (a .book .forbids) k) (a .book .activates) (a .book .prices)) b
         good b h =
@@ -245,10 +242,10 @@ module _ {C : Type 0} (m : Meaning C) (laws : Laws m) (from-test : LawfulFromTes
     price-withdrawn : Sound m (withdrawn m a Price k)
     unfolding withdrawn
     price-withdrawn =
-      reopened-sound m a s (a .book .forbids) (a .book .activates) (removed (a .book .prices) k) (record { some-pair = s .known .some-pair; known-targets = s .known .known-targets })
-      (repriced m (removed (a .book .prices) k) (a .best)) (repriced-good (removed (a .book .prices) k)) (λ e. not (e .rests))
-      (λ e kept p law old. still (e .rests) p (old (unlawful (a .book) (a .book .forbids) (removed (a .book .prices) k) p law (law .unforbidden))) kept)
-      (λ e kept rests h. absurd (both-ways (e .rests) (not-true (e .rests) kept) rests))
+        reopened-sound m a s (a .book .forbids) (a .book .activates) (removed (a .book .prices) k) (record { some-pair = s .known .some-pair; known-targets = s .known .known-targets })
+        (repriced m (removed (a .book .prices) k) (a .best)) (repriced-good (removed (a .book .prices) k)) (λ e. not (e .rests))
+        (λ e kept p law old. still (e .rests) p (old (unlawful (a .book) (a .book .forbids) (removed (a .book .prices) k) p law (law .unforbidden))) kept)
+        (λ e kept rests h. absurd (both-ways (e .rests) (not-true (e .rests) kept) rests))
       where
         still : (t : Bool) (p : Plan) → RulesOut m a t p → not t ≡ true → RulesOut m (reopened a (ruled (a .book) (a .book .forbids) (a .book .activates) (removed (a .book .prices) k)) (repriced m (removed (a .book .prices) k) (a .best)) (λ e. not (e .rests))) t p
         still false p h kept = absurd h

@@ -1,21 +1,20 @@
 -- What each part of a step finds, by its outcome.
 use mathlib.Core.Bool.{Bool, true, false, cond, not, _&&_, _||_}
 use mathlib.Core.List.{List, [], _∷_}
-use mathlib.Core.Logic.{_⊎_, inl, inr, ⊎-elim}
-use mathlib.Core.Path.{_≡_, refl, sym, _∙_, ap}
+use mathlib.Core.Logic.{_⊎_, ⊎-elim}
+use mathlib.Core.Path.{_≡_, refl, sym}
 use Prim.Native.Nat.{ℕ, zero, suc, _≤_, _<_}
 use native.Mathlib.Omega.{arith}
-use lib.Dec.{eqb, ltb, leb}
-use lib.ListN.{length, getD}
+use lib.Dec.{eqb, ltb}
 use Rattle.std.specs.declared.option.Option.{Option}
 use Rattle.std.specs.declared.option.Option.the-variants.{None, Some}
 use Rattle.std.specs.shelf.Lists.{All, Has}
-use Rattle.std.proofs.shelf.Tests.{cond-both, cases-bool, cases-eq, and-parts, and-cases, or-cases, or-parts, or-left, or-right, both-ways, eqb-true, eq-eqb, not-true, not-false, ltb-false, ltb-true}
+use Rattle.std.proofs.shelf.Tests.{cond-both, cases-eq, and-parts, and-cases, or-cases, or-left, or-right, both-ways, eqb-true, eq-eqb, not-true, not-false, ltb-false, ltb-true}
 use Rattle.rules.specs.Conditions.{Plan, names, condition, met}
 use Rattle.rules.specs.Plans.{Book, Set, enables, onAt}
 use Rattle.rules.specs.Refusals.{when, orElse}
 use Rattle.rules.specs.declared.row.Row.{Row}
-use Rattle.account.specs.Accounts.{Exclusion, nobody, either}
+use Rattle.account.specs.Accounts.{Exclusion, nobody}
 use Rattle.account.specs.Steps.{waits, prefer, pick, enabledBy, support, firstMet, isFree, smallestFree, reasonOf, restsOn, reasons, anyRests}
 use Rattle.account.proofs.Meeting.{met-chosen}
 

@@ -1,12 +1,12 @@
 -- Every list of calls leaves a sound account over the same decisions.
-use mathlib.Core.Bool.{Bool, true, false, cond, not, _&&_, _||_}
-use mathlib.Core.List.{List, [], _∷_, _++_}
-use mathlib.Core.Logic.{_⊎_, inl, inr, ⊎-elim}
+use mathlib.Core.Bool.{Bool, true, false, not, _&&_, _||_}
+use mathlib.Core.List.{List, [], _∷_}
+use mathlib.Core.Logic.{⊎-elim}
 use mathlib.Core.Path.{_≡_, refl, sym, _∙_, ap}
 use Prim.Native.Nat.{ℕ, zero, suc, _≤_, _<_}
 use native.Mathlib.Omega.{arith}
 use lib.Dec.{ltb}
-use lib.ListN.{length, take}
+use lib.ListN.{length}
 use Rattle.std.specs.declared.option.Option.{Option}
 use Rattle.std.specs.declared.option.Option.the-variants.{None, Some}
 use Rattle.std.proofs.shelf.Lists.{length-take}
@@ -24,13 +24,13 @@ use Rattle.rules.specs.declared.row.Kind.{Kind}
 use Rattle.rules.specs.declared.row.Kind.the-variants.{Forbid, Activate, Price}
 use Rattle.rules.specs.declared.row.Row.{Row}
 use Rattle.rules.specs.declared.rule.Rule.{Rule}
-use Rattle.account.specs.Accounts.{Account, Best, chosen, either, fresh}
+use Rattle.account.specs.Accounts.{Account, chosen, either, fresh}
 use Rattle.account.specs.Calls.{Call, add, withdraw, rank, run, best, exclusion, unexcluded, refusal, leaves, afterIf, after, history}
 use Rattle.account.specs.Changes.{added, withdrawn}
 use Rattle.account.specs.Steps.{waits, pick, support, priceReason, tested, smallestFree, reasons, anyRests, Retreat, retreat, blamed, blame, withExclusions, enter, extend, champion, conclude, stepAt, step, advanceIn, advance}
 use Rattle.account.specs.declared.state.State.{State}
 use Rattle.account.specs.declared.state.State.the-variants.{Open, Settled}
-use Rattle.account.proofs.Changed.{LawfulFromTest, added-sound, withdrawn-sound}
+use Rattle.account.proofs.Changed.{LawfulFromTest, open-settled, added-sound, withdrawn-sound}
 use Rattle.account.proofs.Sound.{Sound}
 use Rattle.account.proofs.Steady.{advance-sound}
 use Rattle.account.proofs.Tested.{none-some}
@@ -73,8 +73,8 @@ module _ {C : Type 0} (m : Meaning C) where
   conclude-book : (a : Account C) → conclude m a .book ≡ a .book
   unfolding conclude
   conclude-book a =
-    let b = champion m (a .best) (record { plan = chosen (a .trail); cost = cost m (a .book .prices) (chosen (a .trail)) }) in
-    blame-book (record { book = a .book; ranks = a .ranks; trail = a .trail; exclusions = a .exclusions; best = Some b; state = a .state }) (priceReason m (a .book) (b .cost) (chosen (a .trail))) true
+      let b = champion m (a .best) (record { plan = chosen (a .trail); cost = cost m (a .book .prices) (chosen (a .trail)) }) in
+      blame-book (record { book = a .book; ranks = a .ranks; trail = a .trail; exclusions = a .exclusions; best = Some b; state = a .state }) (priceReason m (a .book) (b .cost) (chosen (a .trail))) true
 
   -- a step leaves the book
   pub step-book : (a : Account C) → step m a .book ≡ a .book
@@ -129,35 +129,32 @@ module _ {C : Type 0} (m : Meaning C) where
   -- a new account is sound
   pub fresh-sound : (ds : List Decision) → Sound m (fresh ds)
   fresh-sound ds =
-    record {
-      formed = record { distinct = tt; in-range = λ d v e h. absurd (none-some e h); reasoned = λ d v e h. absurd (none-some e h); free = λ d h. refl };
-      known = record { some-pair = tt; known-targets = tt };
-      grounded = tt;
-      unforbidden = tt;
-      barred = λ d v e h. absurd (none-some e h);
-      resting = λ d v e h. absurd (none-some e h);
-      best-good = λ b h. absurd (none-some b h);
-      settled = λ e. absurd (open-settled e);
-    }
-    where
-      open-settled : Open ≡ Settled → ⊥
-      open-settled h = let z : _≡_ {A = ℕ} 0 1 = cc in omega arith
+      record {
+        formed = record { distinct = tt; in-range = λ d v e h. absurd (none-some e h); reasoned = λ d v e h. absurd (none-some e h); free = λ d h. refl };
+        known = record { some-pair = tt; known-targets = tt };
+        grounded = tt;
+        unforbidden = tt;
+        barred = λ d v e h. absurd (none-some e h);
+        resting = λ d v e h. absurd (none-some e h);
+        best-good = λ b h. absurd (none-some b h);
+        settled = λ e. absurd (open-settled e);
+      }
 
   module _ (laws : Laws m) (from-test : LawfulFromTest) where
     leaves-sound : (a : Account C) (c : Call) → Sound m a → refusal a c ≡ None → Sound m (leaves m a c)
     leaves-sound a (add r) s h = added-sound m laws from-test a s (r .row .kind) (r .row) (rule-some r) (target-known (a .book .decisions) (r .row) (orElse-none _ _ h .0))
     leaves-sound a (withdraw k n) s h = withdrawn-sound m laws from-test a s k n
     leaves-sound a (rank d n) s h =
-      record {
-        formed = record { distinct = s .formed .distinct; in-range = s .formed .in-range; reasoned = s .formed .reasoned; free = s .formed .free };
-        known = s .known;
-        grounded = s .grounded;
-        unforbidden = s .unforbidden;
-        barred = λ x v e q p law has agrees. s .barred x v e q p law has agrees;
-        resting = s .resting;
-        best-good = s .best-good;
-        settled = s .settled;
-      }
+        record {
+          formed = record { distinct = s .formed .distinct; in-range = s .formed .in-range; reasoned = s .formed .reasoned; free = s .formed .free };
+          known = s .known;
+          grounded = s .grounded;
+          unforbidden = s .unforbidden;
+          barred = λ x v e q p law has agrees. s .barred x v e q p law has agrees;
+          resting = s .resting;
+          best-good = s .best-good;
+          settled = s .settled;
+        }
     leaves-sound a (run n) s h = advance-sound m laws n a s
     leaves-sound a (best b) s h = s
     leaves-sound a (exclusion d v) s h = s

@@ -11,3 +11,4 @@ pub mod Steady
 pub mod Changed
 pub mod Histories
 pub mod Reports
+pub mod Planned

@@ -1,13 +1,11 @@
 -- All that the search uses of costs: a plan that meets the kept price rules still reaches the best, and what more rules do to a cost.
-use mathlib.Core.Bool.{Bool, true, false, cond, not, _&&_, _||_}
+use mathlib.Core.Bool.{Bool, true, false, cond}
 use mathlib.Core.List.{List, [], _∷_, _++_}
-use mathlib.Core.Logic.{_⊎_, inl, inr, ⊎-elim}
-use mathlib.Core.Path.{_≡_, refl, sym, _∙_, ap}
-use Prim.Native.Nat.{ℕ, zero, suc, _≤_, _<_}
-use native.Mathlib.Omega.{arith}
-use lib.Dec.{eqb, ltb, leb}
+use mathlib.Core.Logic.{⊎-elim}
+use mathlib.Core.Path.{_≡_, refl, sym, _∙_}
+use Prim.Native.Nat.{ℕ, _<_}
 use Rattle.std.specs.shelf.Lists.{All}
-use Rattle.std.proofs.shelf.Tests.{cond-both, cond-true, cond-false, cases-bool, or-cases, or-left, or-right, both-ways}
+use Rattle.std.proofs.shelf.Tests.{cond-both, or-cases, or-left, or-right, both-ways}
 use Rattle.measure.specs.Meaning.{Meaning}
 use Rattle.measure.proofs.Laws.{Laws}
 use Rattle.rules.specs.Conditions.{Plan, names, condition, met}
@@ -37,7 +35,7 @@ module _ {C : Type 0} (m : Meaning C) (laws : Laws m) where
   unfolding kept
   kept-reaches best before [] p q h all = h
   kept-reaches best before (r ∷ rs) p q h all =
-    go (met p r) (m .atMost best (m .joins before (cost m rs p))) refl h all (kept-reaches best before rs p q) (kept-reaches best (m .joins before (m .reads (r .price))) rs p q)
+      go (met p r) (m .atMost best (m .joins before (cost m rs p))) refl h all (kept-reaches best before rs p q) (kept-reaches best (m .joins before (m .reads (r .price))) rs p q)
     where
       go : (t u : Bool) → m .atMost best (m .joins before (cost m rs p)) ≡ u → m .atMost best (m .joins before (cond t (m .joins (m .reads (r .price)) (cost m rs p)) (cost m rs p))) ≡ true → All (λ s. met q s ≡ true) (cond t (cond u (kept m best before rs p) (r ∷ kept m best (m .joins before (m .reads (r .price))) rs p)) (kept m best before rs p)) → (m .atMost best (m .joins before (cost m rs p)) ≡ true → All (λ s. met q s ≡ true) (kept m best before rs p) → m .atMost best (m .joins before (cost m rs q)) ≡ true) → (m .atMost best (m .joins (m .joins before (m .reads (r .price))) (cost m rs p)) ≡ true → All (λ s. met q s ≡ true) (kept m best (m .joins before (m .reads (r .price))) rs p) → m .atMost best (m .joins (m .joins before (m .reads (r .price))) (cost m rs q)) ≡ true) → m .atMost best (m .joins before (cost m (r ∷ rs) q)) ≡ true
       go true true e h all rest taken = more best before r rs q (rest e all)
@@ -49,15 +47,15 @@ module _ {C : Type 0} (m : Meaning C) (laws : Laws m) where
   unfolding kept
   kept-met best before [] p = tt
   kept-met best before (r ∷ rs) p =
-    cond-both (met p r) (cond (reaches m best (m .joins before (cost m rs p))) (kept m best before rs p) (r ∷ kept m best (m .joins before (m .reads (r .price))) rs p)) (kept m best before rs p) (All (λ r. met p r ≡ true))
-    (λ e. cond-both (reaches m best (m .joins before (cost m rs p))) (kept m best before rs p) (r ∷ kept m best (m .joins before (m .reads (r .price))) rs p) (All (λ r. met p r ≡ true))
+      cond-both (met p r) (cond (reaches m best (m .joins before (cost m rs p))) (kept m best before rs p) (r ∷ kept m best (m .joins before (m .reads (r .price))) rs p)) (kept m best before rs p) (All (λ r. met p r ≡ true))
+      (λ e. cond-both (reaches m best (m .joins before (cost m rs p))) (kept m best before rs p) (r ∷ kept m best (m .joins before (m .reads (r .price))) rs p) (All (λ r. met p r ≡ true))
       (λ f. kept-met best before rs p) (λ f. (e, kept-met best (m .joins before (m .reads (r .price))) rs p)))
-    (λ e. kept-met best before rs p)
+      (λ e. kept-met best before rs p)
 
   named-same : (rs : List Row) (p q : Plan) → ((x : ℕ) → namedIn rs x ≡ true → q x ≡ p x) → All (λ r. met p r ≡ true) rs → All (λ r. met q r ≡ true) rs
   named-same [] p q same all = tt
   named-same (r ∷ rs) p q same all =
-    (met-same r p q (λ x n. same x (or-left (names (condition r) x) (namedIn rs x) n)) (all .0), named-same rs p q (λ x n. same x (or-right (names (condition r) x) (namedIn rs x) n)) (all .1))
+      (met-same r p q (λ x n. same x (or-left (names (condition r) x) (namedIn rs x) n)) (all .0), named-same rs p q (λ x n. same x (or-right (names (condition r) x) (namedIn rs x) n)) (all .1))
 
   named-chosen : (rs : List Row) (p : Plan) → All (λ r. met p r ≡ true) rs → (x : ℕ) → namedIn rs x ≡ true → 0 < p x
   named-chosen [] p all x n = absurd (both-ways false refl n)
@@ -70,8 +68,8 @@ module _ {C : Type 0} (m : Meaning C) (laws : Laws m) where
   -- a plan that agrees on the price reason reaches the best, if the plan it was read from does
   pub price-bars : (b : Book) (best : C) (p q : Plan) → m .atMost best (cost m (b .prices) p) ≡ true → ((x : ℕ) → priceReason m b best p x ≡ true → q x ≡ p x) → m .atMost best (cost m (b .prices) q) ≡ true
   price-bars b best p q h same =
-    rw (unit-left (cost m (b .prices) q)) at
-    (kept-reaches best (m .neutral) (b .prices) p q (rw (unit-left (cost m (b .prices) p)) h) (named-same (kept m best (m .neutral) (b .prices) p) p q same (kept-met best (m .neutral) (b .prices) p)))
+      rw (unit-left (cost m (b .prices) q)) at
+      (kept-reaches best (m .neutral) (b .prices) p q (rw (unit-left (cost m (b .prices) p)) h) (named-same (kept m best (m .neutral) (b .prices) p) p q same (kept-met best (m .neutral) (b .prices) p)))
 
   join-both : (t : Bool) (x c d : C) → cond t (m .joins x (m .joins c d)) (m .joins c d) ≡ m .joins (cond t (m .joins x c) c) d
   join-both true x c d = sym (laws .associative x c d)

@@ -1,7 +1,7 @@
 -- What a sound account answers: the parts of the planning law that speak of one account.
-use mathlib.Core.Bool.{Bool, true, false, cond, not, _&&_, _||_}
-use mathlib.Core.List.{List, [], _∷_, _++_, map}
-use mathlib.Core.Logic.{_⊎_, inl, inr, ⊎-elim, _↔_}
+use mathlib.Core.Bool.{true}
+use mathlib.Core.List.{List, _++_, map}
+use mathlib.Core.Logic.{_↔_}
 use mathlib.Core.Path.{_≡_, refl, sym, _∙_, ap, fun-ext, subst}
 use Prim.Native.Nat.{ℕ, zero, suc, _+_, _≤_, _<_}
 use native.Mathlib.Omega.{arith}
@@ -15,17 +15,17 @@ use Rattle.std.proofs.shelf.Lists.{getD-append-left}
 use Rattle.std.proofs.shelf.Tests.{cond-both, ltb-true, ltb-false}
 use Rattle.measure.specs.Meaning.{Meaning}
 use Rattle.rules.specs.Conditions.{Plan, planOf}
-use Rattle.rules.specs.Plans.{Book, Lawful, cost}
+use Rattle.rules.specs.Plans.{Lawful, cost}
 use Rattle.rules.specs.declared.decision.Decision.{Decision}
 use Rattle.rules.specs.declared.refusal.Refusal.{Refusal}
 use Rattle.account.specs.Accounts.{Account, Exclusion, Best, chosen}
-use Rattle.account.specs.Calls.{Call, run, best, exclusion, Answer, refused, ran, reported, excluded, refusal, made, written, report, accepted, answerIf, answer}
+use Rattle.account.specs.Calls.{run, best, exclusion, ran, reported, excluded, refusal, made, written, report, answerIf, answer}
 use Rattle.account.specs.Law.{Agrees, RulesOut}
 use Rattle.account.specs.Steps.{advanceIn, advance, oneIfOpen}
 use Rattle.account.specs.declared.state.State.{State}
 use Rattle.account.specs.declared.state.State.the-variants.{Open, Settled}
 use Rattle.account.proofs.Changed.{lawful-idle}
-use Rattle.account.proofs.Sound.{Good, Beaten, Sound}
+use Rattle.account.proofs.Sound.{Beaten, Sound}
 use Rattle.account.proofs.Tested.{none-some, some-same}
 
 -- a plan that is idle behind the last decision is the plan of what is written of it

@@ -1,24 +1,23 @@
 -- A blame stays within the trail, and one step keeps an account formed.
-use mathlib.Core.Bool.{Bool, true, false, cond, not, _&&_, _||_}
-use mathlib.Core.List.{List, [], _∷_}
-use mathlib.Core.Logic.{_⊎_, inl, inr, ⊎-elim}
-use mathlib.Core.Path.{_≡_, refl, sym, _∙_, ap}
-use Prim.Native.Nat.{ℕ, zero, suc, _≤_, _<_}
+use mathlib.Core.Bool.{Bool, true, false}
+use mathlib.Core.List.{List, _∷_}
+use mathlib.Core.Logic.{⊎-elim}
+use mathlib.Core.Path.{_≡_, _∙_, ap}
+use Prim.Native.Nat.{ℕ, _≤_, _<_}
 use native.Mathlib.Omega.{arith}
-use lib.Dec.{eqb, ltb, leb}
 use lib.ListN.{length}
 use Rattle.std.specs.declared.option.Option.{Option}
 use Rattle.std.specs.declared.option.Option.the-variants.{None, Some}
 use Rattle.std.proofs.shelf.Tests.{cases-eq, or-cases, both-ways}
 use Rattle.measure.specs.Meaning.{Meaning}
 use Rattle.measure.proofs.Laws.{Laws}
-use Rattle.rules.specs.Plans.{Book, Set, sizeAt, cost}
-use Rattle.account.specs.Accounts.{Account, Entry, Exclusion, Best, chosen, except, either, hasAny}
+use Rattle.rules.specs.Plans.{Set, sizeAt, cost}
+use Rattle.account.specs.Accounts.{Account, Entry, Exclusion, chosen, except, either, hasAny}
 use Rattle.account.specs.Steps.{waits, pick, support, choose, priceReason, tested, smallestFree, reasons, anyRests, Retreat, retreat, relearn, blamed, blame, withExclusions, enter, extend, champion, conclude, stepAt, step}
 use Rattle.account.proofs.Finds.{Picked, picked, waits-idle, support-chosen, Free, smallest, reasons-in}
-use Rattle.account.proofs.Formed.{Formed, Distinct}
+use Rattle.account.proofs.Formed.{Formed}
 use Rattle.account.proofs.Prices.{price-chosen}
-use Rattle.account.proofs.Tested.{Given, New, given-within, tested-some, tested-none, tested-other, except-parts, relearned, relearned-free}
+use Rattle.account.proofs.Tested.{Given, New, given-within, tested-some, tested-other, except-parts, relearned, relearned-free}
 use Rattle.account.proofs.Trails.{chosen-here, chosen-other, chosen-range, Left, Retreated, retreated}
 
 -- a set of decisions on the trail
@@ -46,8 +45,8 @@ module _ {C : Type 0} (a : Account C) (f : Formed a) (s : Set) (rests : Bool) (w
 
     free : (d : ℕ) → 0 < chosen (r .stays) d → relearn (a .exclusions) s rests r d (chosen (r .stays) d) ≡ None
     free d h =
-      relearned-free (a .exclusions) s rests r d (chosen (r .stays) d) (λ (q : d ≡ r .culprit .decision). omega (arith, l .gone, ap (chosen (r .stays)) q))
-      (⊎-elim (λ (q : chosen (r .stays) d ≡ chosen (a .trail) d). rw q (f .free d (rw q at h))) (λ q. absurd (omega (arith, q .0))) (l .each d))
+        relearned-free (a .exclusions) s rests r d (chosen (r .stays) d) (λ (q : d ≡ r .culprit .decision). omega (arith, l .gone, ap (chosen (r .stays)) q))
+        (⊎-elim (λ (q : chosen (r .stays) d ≡ chosen (a .trail) d). rw q (f .free d (rw q at h))) (λ q. absurd (omega (arith, q .0))) (l .each d))
 
   -- a blame within the trail keeps an account formed
   pub blame-formed : Formed (blame a s rests)
@@ -65,12 +64,12 @@ module _ {C : Type 0} (m : Meaning C) (laws : Laws m) where
   -- the test of the values of a decision off the trail keeps an account formed
   pub tested-formed : (a : Account C) → Formed a → (d : ℕ) → chosen (a .trail) d ≡ 0 → Formed (withExclusions a (tested m a d))
   tested-formed a f d idle =
-    record {
-      distinct = f .distinct;
-      in-range = λ x v e h. ⊎-elim (λ k. f .in-range x v e k) (λ (k : New m a d x v e). (k .low, rw (k .is-picked) (k .high))) (tested-some m a d x v e h);
-      reasoned = λ x v e h y t. ⊎-elim (λ k. f .reasoned x v e k y t) (λ (k : New m a d x v e). new v e (k .is-given) y t) (tested-some m a d x v e h);
-      free = λ x h. tested-other m a d x (chosen (a .trail) x) (λ (q : x ≡ d). omega (arith, idle, ap (chosen (a .trail)) q)) ∙ f .free x h;
-    }
+      record {
+        distinct = f .distinct;
+        in-range = λ x v e h. ⊎-elim (λ k. f .in-range x v e k) (λ (k : New m a d x v e). (k .low, rw (k .is-picked) (k .high))) (tested-some m a d x v e h);
+        reasoned = λ x v e h y t. ⊎-elim (λ k. f .reasoned x v e k y t) (λ (k : New m a d x v e). new v e (k .is-given) y t) (tested-some m a d x v e h);
+        free = λ x h. tested-other m a d x (chosen (a .trail) x) (λ (q : x ≡ d). omega (arith, idle, ap (chosen (a .trail)) q)) ∙ f .free x h;
+      }
     where
       new : (v : ℕ) (e : Exclusion) → Given m a d (choose (chosen (a .trail)) d v) (Some e) → (y : ℕ) → e .reason y ≡ true → 0 < chosen (a .trail) y
       new v e g y t =
@@ -80,10 +79,10 @@ module _ {C : Type 0} (m : Meaning C) (laws : Laws m) where
   -- the blame of a dead end is within the trail
   pub dead-end-within : (a : Account C) → Formed a → (d : ℕ) → chosen (a .trail) d ≡ 0 → Within (a .trail) (deadEnd a d)
   dead-end-within a f d idle x t =
-    ⊎-elim
-    (λ h. let k = reasons-in (tested m a d d) (sizeAt (a .book .decisions) d) x h in tested-formed a f d idle .reasoned d (k .0) (k .1) (k .2) x (k .3))
-    (λ h. support-chosen (a .book) (chosen (a .trail)) d x h)
-    (or-cases (reasons (tested m a d d) (sizeAt (a .book .decisions) d) x) (support (a .book) (chosen (a .trail)) d x) t)
+      ⊎-elim
+      (λ h. let k = reasons-in (tested m a d d) (sizeAt (a .book .decisions) d) x h in tested-formed a f d idle .reasoned d (k .0) (k .1) (k .2) x (k .3))
+      (λ h. support-chosen (a .book) (chosen (a .trail)) d x h)
+      (or-cases (reasons (tested m a d d) (sizeAt (a .book .decisions) d) x) (support (a .book) (chosen (a .trail)) d x) t)
 
   -- the blame of a complete trail is within the trail
   pub price-within : (a : Account C) (best : C) → Within (a .trail) (priceReason m (a .book) best (chosen (a .trail)))
@@ -92,15 +91,15 @@ module _ {C : Type 0} (m : Meaning C) (laws : Laws m) where
   -- an entry keeps an account formed
   pub entered-formed : (a : Account C) → Formed a → (d v : ℕ) → chosen (a .trail) d ≡ 0 → 1 ≤ v → v ≤ sizeAt (a .book .decisions) d → a .exclusions d v ≡ None → Formed (enter a d (Some v))
   entered-formed a f d v idle low high none =
-    record {
-      distinct = (idle, low, high, f .distinct);
-      in-range = f .in-range;
-      reasoned = λ x w e h y t. later y (f .reasoned x w e h y t);
-      free =
-          λ x h. ⊎-elim (λ (q : x ≡ d). rw (chosen-here new (a .trail) x q, q) none)
-          (λ (ne : x ≡ d → ⊥). rw (chosen-other new (a .trail) x ne) (f .free x (rw (chosen-other new (a .trail) x ne) at h)))
-          (cases-eq x d);
-    }
+      record {
+        distinct = (idle, low, high, f .distinct);
+        in-range = f .in-range;
+        reasoned = λ x w e h y t. later y (f .reasoned x w e h y t);
+        free =
+            λ x h. ⊎-elim (λ (q : x ≡ d). rw (chosen-here new (a .trail) x q, q) none)
+            (λ (ne : x ≡ d → ⊥). rw (chosen-other new (a .trail) x ne) (f .free x (rw (chosen-other new (a .trail) x ne) at h)))
+            (cases-eq x d);
+      }
     where
       new : Entry
       new = record { decision = d; value = v; support = support (a .book) (chosen (a .trail)) d }
@@ -122,10 +121,10 @@ module _ {C : Type 0} (m : Meaning C) (laws : Laws m) where
   pub conclude-formed : (a : Account C) → Formed a → Formed (conclude m a)
   unfolding conclude
   conclude-formed a f =
-    let b = champion m (a .best) (record { plan = chosen (a .trail); cost = cost m (a .book .prices) (chosen (a .trail)) }) in
-    blame-formed (record { book = a .book; ranks = a .ranks; trail = a .trail; exclusions = a .exclusions; best = Some b; state = a .state })
-    (record { distinct = f .distinct; in-range = f .in-range; reasoned = f .reasoned; free = f .free })
-    (priceReason m (a .book) (b .cost) (chosen (a .trail))) true (price-within a (b .cost))
+      let b = champion m (a .best) (record { plan = chosen (a .trail); cost = cost m (a .book .prices) (chosen (a .trail)) }) in
+      blame-formed (record { book = a .book; ranks = a .ranks; trail = a .trail; exclusions = a .exclusions; best = Some b; state = a .state })
+      (record { distinct = f .distinct; in-range = f .in-range; reasoned = f .reasoned; free = f .free })
+      (priceReason m (a .book) (b .cost) (chosen (a .trail))) true (price-within a (b .cost))
 
   -- one step keeps an account formed
   pub step-formed : (a : Account C) → Formed a → Formed (step m a)

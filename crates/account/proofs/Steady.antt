@@ -1,20 +1,17 @@
 -- One step keeps an account sound, and so does a run.
-use mathlib.Core.Bool.{Bool, true, false, cond, not, _&&_, _||_}
-use mathlib.Core.List.{List, [], _∷_}
-use mathlib.Core.Logic.{_⊎_, inl, inr, ⊎-elim}
+use mathlib.Core.Bool.{Bool, true, false, cond}
+use mathlib.Core.Logic.{⊎-elim}
 use mathlib.Core.Path.{_≡_, refl, sym, _∙_, ap}
 use Prim.Native.Nat.{ℕ, zero, suc, _≤_, _<_}
 use native.Mathlib.Omega.{arith}
-use lib.Dec.{eqb, ltb, leb}
 use lib.ListN.{length}
 use Rattle.std.specs.declared.option.Option.{Option}
 use Rattle.std.specs.declared.option.Option.the-variants.{None, Some}
-use Rattle.std.specs.shelf.Lists.{All, Has}
-use Rattle.std.proofs.shelf.Tests.{cond-both, cases-bool, cases-eq, or-left, or-right, both-ways}
+use Rattle.std.proofs.shelf.Tests.{or-left, or-right, both-ways}
 use Rattle.measure.specs.Meaning.{Meaning}
 use Rattle.measure.proofs.Laws.{Laws}
-use Rattle.rules.specs.Conditions.{Plan, condition, met}
-use Rattle.rules.specs.Plans.{Book, Set, Lawful, cost, sizeAt}
+use Rattle.rules.specs.Conditions.{Plan}
+use Rattle.rules.specs.Plans.{Book, Lawful, cost, sizeAt}
 use Rattle.account.specs.Accounts.{Account, Entry, Exclusion, Best, chosen}
 use Rattle.account.specs.Law.{Agrees, RulesOut}
 use Rattle.account.specs.Steps.{waits, pick, support, choose, priceReason, tested, smallestFree, reasons, anyRests, withExclusions, enter, extend, champion, conclude, stepAt, step, advanceIn, advance}
@@ -22,11 +19,10 @@ use Rattle.account.specs.declared.state.State.{State}
 use Rattle.account.specs.declared.state.State.the-variants.{Open, Settled}
 use Rattle.account.proofs.Actives.{waits-ground, lawful-chooses, complete-lawful}
 use Rattle.account.proofs.Finds.{Picked, picked, waits-idle, Free, smallest, reasons-of, rests-in, rests-of}
-use Rattle.account.proofs.Formed.{Formed}
 use Rattle.account.proofs.Prices.{price-bars, at-most-itself}
-use Rattle.account.proofs.Shapes.{Within, deadEnd, tested-formed, dead-end-within, price-within, entered-formed}
+use Rattle.account.proofs.Shapes.{deadEnd, tested-formed, dead-end-within, price-within, entered-formed}
 use Rattle.account.proofs.Sound.{Good, Beaten, Sound, blame-sound}
-use Rattle.account.proofs.Tested.{Given, New, given-bars, given-within, given-rests, tested-some, tested-none, some-same}
+use Rattle.account.proofs.Tested.{New, given-bars, given-within, given-rests, tested-some, tested-none, some-same}
 use Rattle.account.proofs.Trails.{chosen-here, chosen-other}
 
 module _ {C : Type 0} (m : Meaning C) (laws : Laws m) where
@@ -40,16 +36,16 @@ module _ {C : Type 0} (m : Meaning C) (laws : Laws m) where
     -- with each value of the picked decision tested
     tested-sound : Sound m (withExclusions a (tested m a d))
     tested-sound =
-      record {
-        formed = tested-formed m laws a (s .formed) d idle;
-        known = s .known;
-        grounded = s .grounded;
-        unforbidden = s .unforbidden;
-        barred = λ x v e h p law has agrees. ⊎-elim (λ k. s .barred x v e k p law has agrees) (λ k. new x v e k p law has agrees) (tested-some m a d x v e h);
-        resting = λ x v e h r. ⊎-elim (λ k. s .resting x v e k r) (λ (k : New m a d x v e). given-rests m a d (choose (chosen (a .trail)) d v) laws e (k .is-given) r) (tested-some m a d x v e h);
-        best-good = s .best-good;
-        settled = s .settled;
-      }
+        record {
+          formed = tested-formed m laws a (s .formed) d idle;
+          known = s .known;
+          grounded = s .grounded;
+          unforbidden = s .unforbidden;
+          barred = λ x v e h p law has agrees. ⊎-elim (λ k. s .barred x v e k p law has agrees) (λ k. new x v e k p law has agrees) (tested-some m a d x v e h);
+          resting = λ x v e h r. ⊎-elim (λ k. s .resting x v e k r) (λ (k : New m a d x v e). given-rests m a d (choose (chosen (a .trail)) d v) laws e (k .is-given) r) (tested-some m a d x v e h);
+          best-good = s .best-good;
+          settled = s .settled;
+        }
       where
         entry : ℕ → Entry
         entry v = record { decision = d; value = v; support = λ x. false }
@@ -63,16 +59,16 @@ module _ {C : Type 0} (m : Meaning C) (laws : Laws m) where
     -- with a free value entered
     entered-sound : (v : ℕ) → 1 ≤ v → v ≤ sizeAt (a .book .decisions) d → tested m a d d v ≡ None → Sound m (enter (withExclusions a (tested m a d)) d (Some v))
     entered-sound v low high none =
-      record {
-        formed = entered-formed m laws (withExclusions a (tested m a d)) (tested-sound .formed) d v idle low high none;
-        known = s .known;
-        grounded = (waits-ground (a .book) (chosen (a .trail)) d v w, s .grounded);
-        unforbidden = tested-none m a d v low high none .1;
-        barred = λ x u e h p law has agrees. tested-sound .barred x u e h p law has (λ y r. agrees y r ∙ chosen-other entry (a .trail) y (off y (tested-sound .formed .reasoned x u e h y r)));
-        resting = tested-sound .resting;
-        best-good = s .best-good;
-        settled = s .settled;
-      }
+        record {
+          formed = entered-formed m laws (withExclusions a (tested m a d)) (tested-sound .formed) d v idle low high none;
+          known = s .known;
+          grounded = (waits-ground (a .book) (chosen (a .trail)) d v w, s .grounded);
+          unforbidden = tested-none m a d v low high none .1;
+          barred = λ x u e h p law has agrees. tested-sound .barred x u e h p law has (λ y r. agrees y r ∙ chosen-other entry (a .trail) y (off y (tested-sound .formed .reasoned x u e h y r)));
+          resting = tested-sound .resting;
+          best-good = s .best-good;
+          settled = s .settled;
+        }
       where
         entry : Entry
         entry = record { decision = d; value = v; support = support (a .book) (chosen (a .trail)) d }
@@ -133,16 +129,16 @@ module _ {C : Type 0} (m : Meaning C) (laws : Laws m) where
       -- a better best keeps an account sound
       crowned-sound : Sound m (record { book = a .book; ranks = a .ranks; trail = a .trail; exclusions = a .exclusions; best = Some best; state = a .state })
       crowned-sound =
-        record {
-          formed = record { distinct = s .formed .distinct; in-range = s .formed .in-range; reasoned = s .formed .reasoned; free = s .formed .free };
-          known = s .known;
-          grounded = s .grounded;
-          unforbidden = s .unforbidden;
-          barred = λ d v e h p law has agrees. still (e .rests) p (s .barred d v e h p law has agrees);
-          resting = λ d v e h r. (best, refl);
-          best-good = λ b q. rw (← some-same best b q) (c .is-good);
-          settled = λ e p law. c .no-worse p (s .settled e p law);
-        }
+          record {
+            formed = record { distinct = s .formed .distinct; in-range = s .formed .in-range; reasoned = s .formed .reasoned; free = s .formed .free };
+            known = s .known;
+            grounded = s .grounded;
+            unforbidden = s .unforbidden;
+            barred = λ d v e h p law has agrees. still (e .rests) p (s .barred d v e h p law has agrees);
+            resting = λ d v e h r. (best, refl);
+            best-good = λ b q. rw (← some-same best b q) (c .is-good);
+            settled = λ e p law. c .no-worse p (s .settled e p law);
+          }
         where
           still : (r : Bool) (p : Plan) → RulesOut m a r p → RulesOut m (record { book = a .book; ranks = a .ranks; trail = a .trail; exclusions = a .exclusions; best = Some best; state = a .state }) r p
           still false p h = h
@@ -151,11 +147,11 @@ module _ {C : Type 0} (m : Meaning C) (laws : Laws m) where
     pub conclude-sound : Sound m (conclude m a)
     unfolding conclude
     conclude-sound =
-      let b = champion m (a .best) (record { plan = chosen (a .trail); cost = cost m (a .book .prices) (chosen (a .trail)) }) in
-      let c = crowned (a .book) (a .best) (s .best-good) (chosen (a .trail)) law in
-      blame-sound m (record { book = a .book; ranks = a .ranks; trail = a .trail; exclusions = a .exclusions; best = Some b; state = a .state }) (crowned-sound b c) (priceReason m (a .book) (b .cost) (chosen (a .trail))) true (price-within m laws a (b .cost))
-      (λ p lawful agrees. (b, refl, price-bars m laws (a .book) (b .cost) (chosen (a .trail)) p (c .below) agrees))
-      (λ h. (b, refl))
+        let b = champion m (a .best) (record { plan = chosen (a .trail); cost = cost m (a .book .prices) (chosen (a .trail)) }) in
+        let c = crowned (a .book) (a .best) (s .best-good) (chosen (a .trail)) law in
+        blame-sound m (record { book = a .book; ranks = a .ranks; trail = a .trail; exclusions = a .exclusions; best = Some b; state = a .state }) (crowned-sound b c) (priceReason m (a .book) (b .cost) (chosen (a .trail))) true (price-within m laws a (b .cost))
+        (λ p lawful agrees. (b, refl, price-bars m laws (a .book) (b .cost) (chosen (a .trail)) p (c .below) agrees))
+        (λ h. (b, refl))
 
   -- one step keeps an account sound
   pub step-sound : (a : Account C) → Sound m a → Sound m (step m a)

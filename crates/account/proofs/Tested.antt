@@ -1,25 +1,24 @@
 -- What the test of a value finds, and what the exclusions say after it.
-use mathlib.Core.Bool.{Bool, true, false, cond, not, _&&_, _||_}
-use mathlib.Core.List.{List, [], _∷_}
+use mathlib.Core.Bool.{Bool, true, false, cond, not, _&&_}
 use mathlib.Core.Logic.{_⊎_, inl, inr, ⊎-elim}
-use mathlib.Core.Path.{_≡_, refl, sym, _∙_, ap}
-use Prim.Native.Nat.{ℕ, zero, suc, _≤_, _<_}
+use mathlib.Core.Path.{_≡_, refl, sym}
+use Prim.Native.Nat.{ℕ, _≤_, _<_}
 use native.Mathlib.Omega.{arith}
-use lib.Dec.{eqb, ltb, leb}
+use lib.Dec.{eqb, leb}
 use Rattle.std.specs.declared.option.Option.{Option}
 use Rattle.std.specs.declared.option.Option.the-variants.{None, Some}
 use Rattle.std.specs.shelf.Lists.{All, Has}
 use Rattle.std.proofs.shelf.Elements.{all-has}
-use Rattle.std.proofs.shelf.Tests.{cond-both, cond-true, cond-false, cases-bool, cases-eq, and-parts, and-from, and-left, both-ways, eqb-true, eqb-false, eq-eqb, ne-eqb, not-true, not-from-false, leb-true, le-leb}
+use Rattle.std.proofs.shelf.Tests.{cases-eq, and-parts, and-from, both-ways, eqb-true, eqb-false, eq-eqb, ne-eqb, not-true, not-from-false, leb-true, le-leb}
 use Rattle.measure.specs.Meaning.{Meaning}
 use Rattle.measure.proofs.Laws.{Laws}
 use Rattle.rules.specs.Conditions.{Plan, names, condition, met}
-use Rattle.rules.specs.Plans.{Book, Set, Lawful, cost, sizeAt}
+use Rattle.rules.specs.Plans.{Set, Lawful, cost, sizeAt}
 use Rattle.rules.specs.Refusals.{when, orElse}
 use Rattle.rules.specs.declared.row.Row.{Row}
 use Rattle.account.specs.Accounts.{Account, Exclusion, Best, chosen, except, hasAny}
-use Rattle.account.specs.Law.{Agrees, RulesOut}
-use Rattle.account.specs.Steps.{choose, firstMet, reaches, priceReason, byForbid, byPrice, test, isValue, testedAt, tested, Retreat, unlessLeft, relearn}
+use Rattle.account.specs.Law.{RulesOut}
+use Rattle.account.specs.Steps.{choose, firstMet, priceReason, byForbid, byPrice, test, isValue, testedAt, tested, Retreat, unlessLeft, relearn}
 use Rattle.account.proofs.Finds.{First, first-met}
 use Rattle.account.proofs.Meeting.{met-same, met-chosen}
 use Rattle.account.proofs.Prices.{price-chosen, price-bars}
@@ -81,11 +80,11 @@ module _ {C : Type 0} (m : Meaning C) (a : Account C) (d : ℕ) (p : Plan) where
     -- a test's reason names decisions that the plan chooses, and not the one tested
     pub given-within : (e : Exclusion) → Given (Some e) → (x : ℕ) → e .reason x ≡ true → (0 < p x) × (x ≡ d → ⊥)
     given-within e (inl f) x t =
-      let parts = except-parts (names (condition (f .row))) d x (rw (f .is) at t) in
-      (met-chosen (f .row) p (f .is-met) x (parts .0), parts .1)
+        let parts = except-parts (names (condition (f .row))) d x (rw (f .is) at t) in
+        (met-chosen (f .row) p (f .is-met) x (parts .0), parts .1)
     given-within e (inr f) x t =
-      let parts = except-parts (priceReason m (a .book) (f .best .cost) p) d x (rw (f .is) at t) in
-      (price-chosen m laws (a .book) (f .best .cost) p x (parts .0), parts .1)
+        let parts = except-parts (priceReason m (a .book) (f .best .cost) p) d x (rw (f .is) at t) in
+        (price-chosen m laws (a .book) (f .best .cost) p x (parts .0), parts .1)
 
     -- a test that rests has a best
     pub given-rests : (e : Exclusion) → Given (Some e) → e .rests ≡ true → (b : Best C) × (a .best ≡ Some b)
@@ -95,12 +94,12 @@ module _ {C : Type 0} (m : Meaning C) (a : Account C) (d : ℕ) (p : Plan) where
     -- a lawful plan that agrees with the reason and has the value is ruled out
     pub given-bars : (e : Exclusion) → Given (Some e) → (q : Plan) → Lawful (a .book) q → ((x : ℕ) → e .reason x ≡ true → q x ≡ p x) → q d ≡ p d → RulesOut m a (e .rests) q
     given-bars e (inl f) q law same here =
-      absurd
-      (both-ways (met q (f .row)) (all-has (λ r. met q r ≡ false) (a .book .forbids) (f .row) (law .unforbidden) (f .is-held))
+        absurd
+        (both-ways (met q (f .row)) (all-has (λ r. met q r ≡ false) (a .book .forbids) (f .row) (law .unforbidden) (f .is-held))
         (met-same (f .row) p q (agrees-more (names (condition (f .row))) d p q (λ x t. same x (rw (f .is) t)) here) (f .is-met)))
     given-bars e (inr f) q law same here =
-      rw (f .is)
-      (f .best, f .is-held, price-bars m laws (a .book) (f .best .cost) p q (f .reached) (agrees-more (priceReason m (a .book) (f .best .cost) p) d p q (λ x t. same x (rw (f .is) t)) here))
+        rw (f .is)
+        (f .best, f .is-held, price-bars m laws (a .book) (f .best .cost) p q (f .reached) (agrees-more (priceReason m (a .book) (f .best .cost) p) d p q (λ x t. same x (rw (f .is) t)) here))
 
 module _ {C : Type 0} (m : Meaning C) (a : Account C) (d : ℕ) where
   -- an exclusion after the test of d's values: it stood before, or a value of d was tested

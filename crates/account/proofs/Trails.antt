@@ -1,17 +1,17 @@
 -- What a trail's plan has, and what a retreat from a blame leaves of a trail.
-use mathlib.Core.Bool.{Bool, true, false, cond, not, _&&_, _||_}
+use mathlib.Core.Bool.{true, false}
 use mathlib.Core.List.{List, [], _∷_}
 use mathlib.Core.Logic.{_⊎_, inl, inr, ⊎-elim}
 use mathlib.Core.Path.{_≡_, refl, sym, _∙_, ap}
-use Prim.Native.Nat.{ℕ, zero, suc, _≤_, _<_}
+use Prim.Native.Nat.{ℕ, _≤_, _<_}
 use native.Mathlib.Omega.{arith}
-use lib.Dec.{eqb, ltb, leb}
-use lib.ListN.{length, getD}
+use lib.Dec.{eqb}
+use lib.ListN.{length}
 use Rattle.std.specs.declared.option.Option.{Option}
 use Rattle.std.specs.declared.option.Option.the-variants.{None, Some}
-use Rattle.std.specs.shelf.Lists.{All, Has}
+use Rattle.std.specs.shelf.Lists.{Has}
 use Rattle.std.proofs.shelf.Lists.{getD-past}
-use Rattle.std.proofs.shelf.Tests.{cond-both, cond-true, cond-false, cases-bool, cases-eq, cases-lt, or-cases, or-left, or-right, both-ways, eq-eqb, ne-eqb}
+use Rattle.std.proofs.shelf.Tests.{cond-both, cond-true, cond-false, cases-eq, cases-lt, or-left, or-right, both-ways, eq-eqb, ne-eqb}
 use Rattle.rules.specs.Conditions.{Plan, names, condition, met}
 use Rattle.rules.specs.Plans.{Book, Set, absent, sizeAt, onAt}
 use Rattle.rules.specs.declared.decision.Decision.{Decision}
@@ -81,18 +81,18 @@ Retreated b blame es (Some r) = Left b blame es r
 module _ (b : Book) (blame : Set) (e : Entry) (es : List Entry) (dis : Distinct (b .decisions) (e ∷ es)) where
   blamed-first : blame (e .decision) ≡ true → Left b blame (e ∷ es) (record { culprit = e; left = e .decision ∷ []; stays = es })
   blamed-first h =
-    record {
-      is-blamed = h;
-      was = chosen-here e es (e .decision) refl;
-      gone = dis .0;
-      others = λ x t ne. sym (chosen-other e es x ne);
-      each =
-          λ x. ⊎-elim (λ (q : x ≡ e .decision). inr (rw q (dis .0), λ s t. or-left (s (e .decision)) false (rw q at t)))
-          (λ (ne : x ≡ e .decision → ⊥). inl (sym (chosen-other e es x ne)))
-          (cases-eq x (e .decision));
-      distinct = dis .3;
-      grounded = λ gr. gr .1;
-    }
+      record {
+        is-blamed = h;
+        was = chosen-here e es (e .decision) refl;
+        gone = dis .0;
+        others = λ x t ne. sym (chosen-other e es x ne);
+        each =
+            λ x. ⊎-elim (λ (q : x ≡ e .decision). inr (rw q (dis .0), λ s t. or-left (s (e .decision)) false (rw q at t)))
+            (λ (ne : x ≡ e .decision → ⊥). inl (sym (chosen-other e es x ne)))
+            (cases-eq x (e .decision));
+        distinct = dis .3;
+        grounded = λ gr. gr .1;
+      }
 
   module _ (unblamed : blame (e .decision) ≡ false) (r : Retreat) (l : Left b blame es r) where
     apart : (x : ℕ) → blame x ≡ true → x ≡ e .decision → ⊥
@@ -103,18 +103,18 @@ module _ (b : Book) (blame : Set) (e : Entry) (es : List Entry) (dis : Distinct 
 
     leaves : Left b blame (e ∷ es) (record { culprit = r .culprit; left = e .decision ∷ r .left; stays = r .stays })
     leaves =
-      record {
-        is-blamed = l .is-blamed;
-        was = chosen-other e es (r .culprit .decision) (apart (r .culprit .decision) (l .is-blamed)) ∙ l .was;
-        gone = l .gone;
-        others = λ x t ne. l .others x t ne ∙ sym (chosen-other e es x (apart x t));
-        each =
-            λ x. ⊎-elim (λ (q : x ≡ e .decision). inr (rw q idle, λ s t. or-left (s (e .decision)) (hasAny s (r .left)) (rw q at t)))
-            (λ (ne : x ≡ e .decision → ⊥). ⊎-elim (λ h. inl (h ∙ sym (chosen-other e es x ne))) (λ h. inr (h .0, λ s t. or-right (s (e .decision)) (hasAny s (r .left)) (h .1 s t))) (l .each x))
-            (cases-eq x (e .decision));
-        distinct = l .distinct;
-        grounded = λ gr. l .grounded (gr .1);
-      }
+        record {
+          is-blamed = l .is-blamed;
+          was = chosen-other e es (r .culprit .decision) (apart (r .culprit .decision) (l .is-blamed)) ∙ l .was;
+          gone = l .gone;
+          others = λ x t ne. l .others x t ne ∙ sym (chosen-other e es x (apart x t));
+          each =
+              λ x. ⊎-elim (λ (q : x ≡ e .decision). inr (rw q idle, λ s t. or-left (s (e .decision)) (hasAny s (r .left)) (rw q at t)))
+              (λ (ne : x ≡ e .decision → ⊥). ⊎-elim (λ h. inl (h ∙ sym (chosen-other e es x ne))) (λ h. inr (h .0, λ s t. or-right (s (e .decision)) (hasAny s (r .left)) (h .1 s t))) (l .each x))
+              (cases-eq x (e .decision));
+          distinct = l .distinct;
+          grounded = λ gr. l .grounded (gr .1);
+        }
 
     module _ (apart-from-left : hasAny (e .support) (r .left) ≡ false) where
       still : Ground b (chosen es) e → Ground b (chosen (r .stays)) e
@@ -123,24 +123,24 @@ module _ (b : Book) (blame : Set) (e : Entry) (es : List Entry) (dis : Distinct 
 
       remains : Left b blame (e ∷ es) (record { culprit = r .culprit; left = r .left; stays = e ∷ r .stays })
       remains =
-        record {
-          is-blamed = l .is-blamed;
-          was = chosen-other e es (r .culprit .decision) (apart (r .culprit .decision) (l .is-blamed)) ∙ l .was;
-          gone = chosen-other e (r .stays) (r .culprit .decision) (apart (r .culprit .decision) (l .is-blamed)) ∙ l .gone;
-          others = λ x t ne. chosen-other e (r .stays) x (apart x t) ∙ l .others x t ne ∙ sym (chosen-other e es x (apart x t));
-          each =
-              λ x. ⊎-elim (λ (q : x ≡ e .decision). inl (chosen-here e (r .stays) x q ∙ sym (chosen-here e es x q)))
-              (λ (ne : x ≡ e .decision → ⊥). ⊎-elim (λ h. inl (chosen-other e (r .stays) x ne ∙ h ∙ sym (chosen-other e es x ne))) (λ h. inr (chosen-other e (r .stays) x ne ∙ h .0, h .1)) (l .each x))
-              (cases-eq x (e .decision));
-          distinct = (idle, dis .1, dis .2, l .distinct);
-          grounded = λ gr. (still (gr .0), l .grounded (gr .1));
-        }
+          record {
+            is-blamed = l .is-blamed;
+            was = chosen-other e es (r .culprit .decision) (apart (r .culprit .decision) (l .is-blamed)) ∙ l .was;
+            gone = chosen-other e (r .stays) (r .culprit .decision) (apart (r .culprit .decision) (l .is-blamed)) ∙ l .gone;
+            others = λ x t ne. chosen-other e (r .stays) x (apart x t) ∙ l .others x t ne ∙ sym (chosen-other e es x (apart x t));
+            each =
+                λ x. ⊎-elim (λ (q : x ≡ e .decision). inl (chosen-here e (r .stays) x q ∙ sym (chosen-here e es x q)))
+                (λ (ne : x ≡ e .decision → ⊥). ⊎-elim (λ h. inl (chosen-other e (r .stays) x ne ∙ h ∙ sym (chosen-other e es x ne))) (λ h. inr (chosen-other e (r .stays) x ne ∙ h .0, h .1)) (l .each x))
+                (cases-eq x (e .decision));
+            distinct = (idle, dis .1, dis .2, l .distinct);
+            grounded = λ gr. (still (gr .0), l .grounded (gr .1));
+          }
 
   followed : blame (e .decision) ≡ false → (o : Option Retreat) → Retreated b blame es o → Retreated b blame (e ∷ es) (follow e o)
   followed unblamed None h =
-    λ x t. ⊎-elim (λ (q : x ≡ e .decision). rw q unblamed) (λ (ne : x ≡ e .decision → ⊥). h x (rw (chosen-other e es x ne) at t)) (cases-eq x (e .decision))
+      λ x t. ⊎-elim (λ (q : x ≡ e .decision). rw q unblamed) (λ (ne : x ≡ e .decision → ⊥). h x (rw (chosen-other e es x ne) at t)) (cases-eq x (e .decision))
   followed unblamed (Some r) l =
-    cond-both (hasAny (e .support) (r .left)) (record { culprit = r .culprit; left = e .decision ∷ r .left; stays = r .stays }) (record { culprit = r .culprit; left = r .left; stays = e ∷ r .stays }) (Left b blame (e ∷ es)) (λ t. leaves unblamed r l) (λ t. remains unblamed r l t)
+      cond-both (hasAny (e .support) (r .left)) (record { culprit = r .culprit; left = e .decision ∷ r .left; stays = r .stays }) (record { culprit = r .culprit; left = r .left; stays = e ∷ r .stays }) (Left b blame (e ∷ es)) (λ t. leaves unblamed r l) (λ t. remains unblamed r l t)
 
 -- a retreat leaves what it should
 pub retreated : (b : Book) (blame : Set) (es : List Entry) → Distinct (b .decisions) es → Retreated b blame es (retreat blame es)
