@@ -1,7 +1,7 @@
 -- The shape of a rule, and what compose makes of its arguments.
 use mathlib.Core.Bool.{Bool, true, false, cond, not, _&&_, _||_}
 use mathlib.Core.List.{List, [], _∷_, _++_}
-use Prim.Native.Nat.{ℕ, _-_}
+use Prim.Native.Nat.{ℕ, _+_, _-_}
 use lib.Dec.{ltb, leb}
 use lib.ListN.{length, replicate}
 use Rattle.std.specs.declared.option.Option.{Option}
@@ -14,15 +14,14 @@ use Rattle.rules.specs.declared.row.Kind.{Kind}
 use Rattle.rules.specs.declared.row.Kind.the-variants.{Forbid, Activate, Price as Priced}
 use Rattle.rules.specs.declared.row.Row.{Row}
 
--- every pair's decision is above the one before
-abbrev pub ascendsFrom : Literal → List Literal → Bool
-ascendsFrom l [] = true
-ascendsFrom l (k ∷ ks) = ltb (l .decision) (k .decision) && ascendsFrom k ks
+-- every pair's decision is at least n, and above the one before
+abbrev pub ascendsFrom : ℕ → List Literal → Bool
+ascendsFrom n [] = true
+ascendsFrom n (l ∷ ls) = leb n (l .decision) && ascendsFrom (l .decision + 1) ls
 
 -- the decisions of the pairs strictly ascend
 abbrev pub ascends : List Literal → Bool
-ascends [] = true
-ascends (l ∷ ls) = ascendsFrom l ls
+ascends ls = ascendsFrom 0 ls
 
 abbrev pub isForbid : Kind → Bool
 isForbid Forbid = true
@@ -62,3 +61,7 @@ composed k ps target price =
       target = cond (isActivate k) target 0;
       price = cond (isPrice k) price free;
     }
+
+-- the rule that a new place holds: forbid 0=1
+abbrev pub newRule : Row
+newRule = composed Forbid (record { decision = 0; value = 1 } ∷ []) 0 free

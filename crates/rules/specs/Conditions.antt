@@ -11,7 +11,11 @@ use Rattle.rules.specs.declared.row.Row.{Row}
 abbrev pub Plan : Type 0
 Plan = ℕ → ℕ
 
--- the plan that bytes stand for, over n decisions: a byte for each
+-- the plan that bytes stand for: a byte for each decision
+abbrev pub fromBytes : List ℕ → Plan
+fromBytes bytes d = getD bytes d 0
+
+-- the plan that bytes stand for, over n decisions: the bytes past those are no part of it
 abbrev pub planOf : ℕ → List ℕ → Plan
 planOf n bytes d = cond (ltb d n) (getD bytes d 0) 0
 

@@ -20,13 +20,19 @@ use Rattle.rules.specs.declared.literal.Literal.{Literal}
 use Rattle.rules.specs.declared.refusal.Refusal.{Refusal}
 use Rattle.rules.specs.declared.refusal.Refusal.the-variants.{TooManyDecisions, SizeOutOfRange, UnknownDecision, UnknownValue, ShortPlan}
 use Rattle.rules.specs.declared.row.Row.{Row}
+use Rattle.rules.specs.declared.verdict.Breach.{Breach}
+use Rattle.rules.specs.declared.verdict.Breach.the-variants.{NotActive, NotChosen, OutOfRange, Forbidden}
 use Rattle.rules.specs.declared.verdict.Verdict.{Verdict}
-use Rattle.rules.specs.declared.verdict.Verdict.the-variants.{Lawful as IsLawful, NotActive, NotChosen, OutOfRange, Forbidden}
+use Rattle.rules.specs.declared.verdict.Verdict.the-variants.{Lawful as IsLawful, Broken}
+
+-- a decision has 1 to 16 values
+abbrev pub hasSize : Decision → Bool
+hasSize d = leb 1 (d .size) && leb (d .size) 16
 
 -- every decision has 1 to 16 values
 abbrev pub sized : List Decision → Bool
 sized [] = true
-sized (d ∷ ds) = leb 1 (d .size) && leb (d .size) 16 && sized ds
+sized (d ∷ ds) = hasSize d && sized ds
 
 -- why decisions are refused
 abbrev pub openRefusal : List Decision → Option Refusal
@@ -37,10 +43,14 @@ abbrev pub knownDecisions : ℕ → List Literal → Bool
 knownDecisions n [] = true
 knownDecisions n (l ∷ ls) = ltb (l .decision) n && knownDecisions n ls
 
+-- a pair's value is one of its decision's
+abbrev pub knownValue : List Decision → Literal → Bool
+knownValue ds l = leb 1 (l .value) && leb (l .value) (sizeAt ds (l .decision))
+
 -- every pair's value is one of its decision's
 abbrev pub knownValues : List Decision → List Literal → Bool
 knownValues ds [] = true
-knownValues ds (l ∷ ls) = leb 1 (l .value) && leb (l .value) (sizeAt ds (l .decision)) && knownValues ds ls
+knownValues ds (l ∷ ls) = knownValue ds l && knownValues ds ls
 
 -- why a row is refused beside these decisions: first the decisions of pairs and target, then the values
 abbrev pub rowRefusal : List Decision → Row → Option Refusal
@@ -81,13 +91,17 @@ FitsBelow b p d = (e : ℕ) → e < d → Fits b p e
 abbrev pub FirstMet : List Row → Plan → ℕ → Type 0
 FirstMet rs p k = (k < length rs) × All (λ r. met p r ≡ false) (take k rs) × ((r : Row) → met p (getD rs k r) ≡ true)
 
--- what a verdict says: the plan is lawful at its cost, or which is the first decision, else the first forbid rule, at fault
+-- what a breach says: which is the first decision, else the first forbid rule, at fault
+abbrev pub Breaks : Book → Plan → Breach → Type 0
+Breaks b p (NotActive d) = FitsBelow b p d × (0 < p d) × (Active b p d → ⊥)
+Breaks b p (NotChosen d) = FitsBelow b p d × (p d ≡ 0) × Active b p d
+Breaks b p (OutOfRange d) = FitsBelow b p d × Active b p d × (sizeAt (b .decisions) d < p d)
+Breaks b p (Forbidden k) = FitsBelow b p (length (b .decisions)) × FirstMet (b .forbids) p k
+
+-- what a verdict says: the plan is lawful at its cost, or breaks a law
 abbrev pub Judged : {C : Type 0} → Meaning C → Book → Plan → Verdict C → Type 0
 Judged m b p (IsLawful c) = Lawful b p × (c ≡ cost m (b .prices) p)
-Judged m b p (NotActive d) = FitsBelow b p d × (0 < p d) × (Active b p d → ⊥)
-Judged m b p (NotChosen d) = FitsBelow b p d × (p d ≡ 0) × Active b p d
-Judged m b p (OutOfRange d) = FitsBelow b p d × Active b p d × (sizeAt (b .decisions) d < p d)
-Judged m b p (Forbidden k) = FitsBelow b p (length (b .decisions)) × FirstMet (b .forbids) p k
+Judged m b p (Broken x) = Breaks b p x
 
 -- the whole answer: a refusal just on its ground, else a verdict that holds
 abbrev pub Answered : {C : Type 0} → Meaning C → List Decision → List Row → List ℕ → Result (Verdict C) Refusal → Type 0

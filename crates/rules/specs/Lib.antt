@@ -3,3 +3,4 @@ pub mod Conditions
 pub mod Compose
 pub mod Plans
 pub mod Judging
+pub mod Searches

@@ -4,6 +4,8 @@ use Prim.Native.Nat.{ℕ}
 use lib.Dec.{eqb, leb}
 use Rattle.std.specs.declared.option.Option.{Option}
 use Rattle.std.specs.declared.option.Option.the-variants.{None, Some}
+use Rattle.std.specs.declared.result.Result.{Result}
+use Rattle.std.specs.declared.result.Result.the-variants.{Ok, Err}
 use Rattle.rules.specs.declared.refusal.Layer.{Layer}
 use Rattle.rules.specs.declared.refusal.Layer.the-variants.{Text, Rule, Planner}
 use Rattle.rules.specs.declared.refusal.Refusal.{Refusal}
@@ -42,3 +44,13 @@ when false x = None
 abbrev pub orElse : {X : Type 0} → Option X → Option X → Option X
 orElse (Some x) o = Some x
 orElse None o = o
+
+-- a refusal as the answer of a call that has nothing else to say
+abbrev pub asResult : Option Refusal → Result (Unit {0}) Refusal
+asResult (Some e) = Err e
+asResult None = Ok tt
+
+-- what a call leaves: the old, if it is refused
+abbrev pub unlessRefused : {X : Type 0} → Option Refusal → X → X → X
+unlessRefused (Some e) old new = old
+unlessRefused None old new = new

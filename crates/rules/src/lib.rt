@@ -1,5 +1,7 @@
 //! Decisions, rules and plans: composing a rule, and judging a plan by the rules.
 
+mod checks;
+mod compose;
 mod decision;
 mod literal;
 mod refusal;
@@ -7,6 +9,8 @@ mod row;
 mod rule;
 mod verdict;
 
+pub use checks::check_decisions;
+pub use checks::check_row;
 pub use decision::Decision;
 pub use literal::Literal;
 pub use refusal::Layer;
@@ -14,4 +18,5 @@ pub use refusal::Refusal;
 pub use row::Kind;
 pub use row::Row;
 pub use rule::Rule;
+pub use verdict::Breach;
 pub use verdict::Verdict;

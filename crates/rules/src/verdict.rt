@@ -1,10 +1,8 @@
 //! What the judging of a plan answers.
 
-/// A plan is lawful at a cost, or a law that it breaks.
+/// A law that a plan breaks.
 #[derive(Clone, Copy)]
-pub enum Verdict<M> {
-    /// Lawful, with its cost.
-    Lawful(M),
+pub enum Breach {
     /// This decision is chosen and not active.
     NotActive(u8),
     /// This decision is active and not chosen.
@@ -13,4 +11,11 @@ pub enum Verdict<M> {
     OutOfRange(u8),
     /// The forbid rule at this place is met.
     Forbidden(usize),
+}
+
+/// A plan is lawful, at a cost, or breaks a law.
+#[derive(Clone, Copy)]
+pub enum Verdict<M> {
+    Lawful(M),
+    Broken(Breach),
 }
