@@ -1,1 +1,4 @@
 pub mod Formed
+pub mod Cells
+pub mod Digits
+pub mod Bound
