@@ -44,7 +44,7 @@ true-placed true k h = lt-ltb 0 k (h refl)
 true-placed false k h = refl
 
 module _ (n : ℕ) (es : List Entry) (s : Set) where
-  lies-decides : Decides (lies n es s) ((x : ℕ) → x < n → s x ≡ true → 0 < chosen es x)
+  pub lies-decides : Decides (lies n es s) ((x : ℕ) → x < n → s x ≡ true → 0 < chosen es x)
   unfolding lies
   lies-decides =
       decides-below-and (placed s es) (λ x. s x ≡ true → 0 < chosen es x) (allBelow (placed s es))
@@ -83,12 +83,12 @@ powers b x j k n e = mul-assoc x (b ^ j) (b ^ k) ∙ ap (λ (y : ℕ). x * y) (s
 pub chosen-here : (e : Entry) (es : List Entry) → chosen (e ∷ es) (e .decision) ≡ e .value
 chosen-here e es = cond-true (eqb (e .decision) (e .decision)) (e .value) (chosen es (e .decision)) (eq-eqb (e .decision) (e .decision) refl)
 
-chosen-more : (e : Entry) (es : List Entry) → 1 ≤ e .value → (x : ℕ) → 0 < chosen es x → 0 < chosen (e ∷ es) x
+pub chosen-more : (e : Entry) (es : List Entry) → 1 ≤ e .value → (x : ℕ) → 0 < chosen es x → 0 < chosen (e ∷ es) x
 chosen-more e es h x k = cond-both (eqb x (e .decision)) (e .value) (chosen es x) (λ y. 0 < y) (λ _. h) (λ _. k)
 
 module _ (ds : List Decision) where
   -- a decision on the trail is one of the list
-  sized : (d : ℕ) → 0 < sizeAt ds d → d < length ds
+  pub sized : (d : ℕ) → 0 < sizeAt ds d → d < length ds
   sized d h =
       ⊎-elim (λ (k : d < length ds). k)
       (λ (k : length ds ≤ d). let z : sizeAt ds d ≡ 0 = ap (λ (y : Decision). y .size) (getD-past ds d absent k) in omega arith)
@@ -135,7 +135,7 @@ module _ (ds : List Decision) where
     inside-less es s =
         cells-less (λ d v. counted (length ds) es (ex d v)) (λ d v. counted (length ds) es (new d v)) (λ d v. still-counted es s d v (ex d v) refl) ds
 
-    inside-rises : (es : List Entry) → Stays ex new es → (d v : ℕ) (e : Exclusion) → ex d v ≡ None → new d v ≡ Some e → lies (length ds) es (e .reason) ≡ true → 1 ≤ v → v ≤ sizeAt ds d → inside ds ex es < inside ds new es
+    pub inside-rises : (es : List Entry) → Stays ex new es → (d v : ℕ) (e : Exclusion) → ex d v ≡ None → new d v ≡ Some e → lies (length ds) es (e .reason) ≡ true → 1 ≤ v → v ≤ sizeAt ds d → inside ds ex es < inside ds new es
     unfolding inside
     inside-rises es s d v e was is t low high =
         cells-rises (λ d v. counted (length ds) es (ex d v)) (λ d v. counted (length ds) es (new d v)) (λ d v. still-counted es s d v (ex d v) refl) ds d v
@@ -146,7 +146,7 @@ module _ (ds : List Decision) where
     digits-less (e ∷ es) h s =
         omega (arith, inside-less (e ∷ es) s, mul-le-mul-right (base ds) (digits-less es (h .3) (stays-below e es (h .1) s)))
 
-    digits-rises : (es : List Entry) → Distinct ds es → Stays ex new es → inside ds ex es < inside ds new es → digits ds ex es < digits ds new es
+    pub digits-rises : (es : List Entry) → Distinct ds es → Stays ex new es → inside ds ex es < inside ds new es → digits ds ex es < digits ds new es
     digits-rises [] h s k = omega arith
     digits-rises (e ∷ es) h s k =
         omega (arith, mul-le-mul-right (base ds) (digits-less es (h .3) (stays-below e es (h .1) s)))

@@ -1,4 +1,5 @@
 pub mod Formed
 pub mod Cells
 pub mod Digits
+pub mod Retreats
 pub mod Bound
