@@ -3,3 +3,4 @@ pub mod Cells
 pub mod Digits
 pub mod Retreats
 pub mod Bound
+pub mod SameRules
