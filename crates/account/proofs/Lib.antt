@@ -4,3 +4,4 @@ pub mod Digits
 pub mod Retreats
 pub mod Bound
 pub mod SameRules
+pub mod WorkedShown
