@@ -1,7 +1,7 @@
 -- At most (V + 2) ^ (N + 1) steps between two changes of rules, for N decisions of V values in all.
-use mathlib.Core.Bool.{Bool, true, false, cond, not, _&&_, _||_}
+use mathlib.Core.Bool.{Bool, true, false, _&&_}
 use mathlib.Core.List.{List, [], _∷_}
-use mathlib.Core.Path.{_≡_, refl, sym, _∙_, ap}
+use mathlib.Core.Path.{_≡_, refl, _∙_, ap}
 use Prim.Native.Nat.{ℕ, zero, suc, _+_, _^_, _≤_, _<_}
 use native.Mathlib.Nat.{add-assoc}
 use native.Mathlib.Omega.{arith}
@@ -17,14 +17,14 @@ use Rattle.rules.specs.declared.refusal.Refusal.{Refusal}
 use Rattle.rules.specs.declared.row.Row.{Row}
 use Rattle.rules.specs.declared.row.Kind.{Kind}
 use Rattle.rules.specs.declared.row.Kind.the-variants.{Forbid, Activate, Price}
-use Rattle.account.specs.Accounts.{Account, Entry, Exclusion, Best, fresh, chosen, either}
-use Rattle.account.specs.Calls.{Call, Answer, add, withdraw, rank, run, best, exclusion, unexcluded, refusal, made, answer, answerIf, accepted, after, afterIf, leaves, isChange, stepsOf, tally, stepsSince, report}
+use Rattle.account.specs.Accounts.{Account, Exclusion, Best, fresh, chosen, either}
+use Rattle.account.specs.Calls.{Call, add, withdraw, rank, run, best, exclusion, unexcluded, refusal, made, answer, answerIf, accepted, after, afterIf, leaves, isChange, stepsOf, tally, stepsSince, report}
 use Rattle.account.specs.Changes.{added, withdrawn}
-use Rattle.account.specs.Steps.{Retreat, retreat, relearn, blamed, blame, withExclusions, enter, extend, conclude, champion, priceReason, reasons, anyRests, support, tested, smallestFree, pick, waits, step, stepAt, advance, advanceIn, oneIfOpen}
+use Rattle.account.specs.Steps.{Retreat, retreat, blamed, blame, withExclusions, enter, extend, conclude, champion, priceReason, reasons, anyRests, support, tested, smallestFree, pick, waits, step, stepAt, advance, advanceIn, oneIfOpen}
 use Rattle.account.specs.declared.state.State.{State}
 use Rattle.account.specs.declared.state.State.the-variants.{Open, Settled}
-use Rattle.account.proofs.Formed.{Distinct, Formed}
-use Rattle.account.proofs.Digits.{Within, Excluded, Stays, base, height, trail-le, height-below, height-less, height-enters}
+use Rattle.account.proofs.Formed.{Formed}
+use Rattle.account.proofs.Digits.{Within, Excluded, base, height, trail-le, height-below, height-less, height-enters}
 use Rattle.account.proofs.Retreats.{retreat-rises}
 
 -- the number of an account

@@ -1,27 +1,27 @@
 -- The number that every step raises: a digit for each front of the trail, from the empty one on, that counts the exclusions whose reasons lie within it.
-use mathlib.Core.Bool.{Bool, true, false, cond, not, _&&_, _||_}
+use mathlib.Core.Bool.{Bool, true, false, not, _||_}
 use mathlib.Core.List.{List, [], _∷_, _++_}
-use mathlib.Core.Logic.{_⊎_, inl, inr, ⊎-elim}
-use mathlib.Core.Path.{_≡_, refl, sym, _∙_, ap, subst}
-use Prim.Native.Nat.{ℕ, zero, suc, _+_, _*_, _-_, _^_, _≤_, _<_}
-use native.Mathlib.Nat.{pow-zero, pow-suc, pow-succ', mul-le-mul-right, mul-lt-mul-of-pos-right, one-le-pow, add-mul, mul-assoc, suc-mul}
+use mathlib.Core.Logic.{⊎-elim}
+use mathlib.Core.Path.{_≡_, refl, sym, _∙_, ap}
+use Prim.Native.Nat.{ℕ, suc, _+_, _*_, _-_, _^_, _≤_, _<_}
+use native.Mathlib.Nat.{pow-zero, pow-suc, pow-succ', mul-le-mul-right, mul-lt-mul-of-pos-right, one-le-pow, mul-assoc, suc-mul}
 use lib.Pow.{pow-add}
 use native.Mathlib.Numerals.{add-one}
 use native.Mathlib.Omega.{arith}
 use lib.Dec.{eqb, ltb}
-use lib.ListN.{length, getD, length-append}
+use lib.ListN.{length, length-append}
 use Rattle.std.specs.declared.option.Option.{Option}
 use Rattle.std.specs.declared.option.Option.the-variants.{None, Some}
 use Rattle.std.specs.Orderings.{Decides}
 use Rattle.std.specs.shelf.Lists.{sumBy}
 use Rattle.std.proofs.shelf.Lists.{getD-past, append-nil}
-use Rattle.std.proofs.shelf.Tests.{cases-eq, cases-lt, cases-bool, false≢true, cond-both, eqb-true, eqb-false, eq-eqb, ne-eqb, ltb-true, lt-ltb, le-ltb, or-cases, or-right, or-left, cond-true, cond-false}
+use Rattle.std.proofs.shelf.Tests.{cases-lt, false≢true, cond-both, eqb-true, eq-eqb, ltb-true, lt-ltb, cond-true}
 use Rattle.std.proofs.shelf.Ways.{decides-below-and}
 use Rattle.rules.specs.Plans.{Set, sizeAt, allBelow, absent}
 use Rattle.rules.specs.declared.decision.Decision.{Decision}
-use Rattle.account.specs.Accounts.{Account, Entry, Exclusion, chosen}
-use Rattle.account.proofs.Formed.{Distinct, Formed}
-use Rattle.account.proofs.Cells.{below, below-le, below-less, below-rises, cells, cells-le, cells-less, cells-rises}
+use Rattle.account.specs.Accounts.{Entry, Exclusion, chosen}
+use Rattle.account.proofs.Formed.{Distinct}
+use Rattle.account.proofs.Cells.{below, below-le, below-rises, cells, cells-le, cells-less, cells-rises}
 
 -- a set lies within a trail
 abbrev pub Within : List Entry → Set → Type 0
@@ -105,9 +105,9 @@ module _ (ds : List Decision) where
   trail-le-chosen [] h = omega arith
   trail-le-chosen (e ∷ es) h =
       let rise : below (λ x. ltb 0 (chosen es x)) (length ds) < below (λ x. ltb 0 (chosen (e ∷ es) x)) (length ds) =
-          below-rises (λ x. ltb 0 (chosen es x)) (λ x. ltb 0 (chosen (e ∷ es) x))
-          (λ x t. lt-ltb 0 (chosen (e ∷ es) x) (chosen-more e es (h .1) x (ltb-true 0 (chosen es x) t)))
-          (e .decision) (rw (h .0) refl) (rw (chosen-here e es) (lt-ltb 0 (e .value) (h .1))) (length ds) (sized (e .decision) (omega arith)) in
+      below-rises (λ x. ltb 0 (chosen es x)) (λ x. ltb 0 (chosen (e ∷ es) x))
+      (λ x t. lt-ltb 0 (chosen (e ∷ es) x) (chosen-more e es (h .1) x (ltb-true 0 (chosen es x) t)))
+      (e .decision) (rw (h .0) refl) (rw (chosen-here e es) (lt-ltb 0 (e .value) (h .1))) (length ds) (sized (e .decision) (omega arith)) in
       omega (arith, trail-le-chosen es (h .3))
 
   pub trail-le : (es : List Entry) → Distinct ds es → length es ≤ length ds

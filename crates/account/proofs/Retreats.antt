@@ -1,19 +1,19 @@
 -- What a retreat takes from a trail, and that it raises the number.
-use mathlib.Core.Bool.{Bool, true, false, cond, not, _&&_, _||_}
+use mathlib.Core.Bool.{Bool, true, false, not, _&&_}
 use mathlib.Core.List.{List, [], _∷_, _++_}
 use mathlib.Core.Logic.{⊎-elim}
-use mathlib.Core.Path.{_≡_, refl, sym, _∙_, ap}
-use Prim.Native.Nat.{ℕ, zero, suc, _≤_, _<_}
+use mathlib.Core.Path.{_≡_, refl, _∙_, ap}
+use Prim.Native.Nat.{ℕ, _≤_, _<_}
 use native.Mathlib.Omega.{arith}
 use lib.Dec.{eqb}
 use lib.ListN.{length}
 use Rattle.std.specs.declared.option.Option.{Option}
 use Rattle.std.specs.declared.option.Option.the-variants.{None, Some}
 use Rattle.std.specs.shelf.Lists.{All}
-use Rattle.std.proofs.shelf.Tests.{cases-bool, cases-lt, both-ways, false≢true, cond-both, eqb-true, eqb-false, eq-eqb, ne-eqb, cond-true, cond-false, and-parts, and-from, not-true, or-from}
+use Rattle.std.proofs.shelf.Tests.{cases-bool, cases-lt, both-ways, cond-both, eqb-true, eq-eqb, ne-eqb, cond-true, cond-false, and-parts, and-from, not-true, or-from}
 use Rattle.rules.specs.Plans.{Set, sizeAt}
 use Rattle.rules.specs.declared.decision.Decision.{Decision}
-use Rattle.account.specs.Accounts.{Entry, Exclusion, chosen, except, hasAny}
+use Rattle.account.specs.Accounts.{Entry, chosen, except, hasAny}
 use Rattle.account.specs.Steps.{Retreat, retreat, follow, relearn, unlessLeft}
 use Rattle.account.proofs.Formed.{Distinct}
 use Rattle.account.proofs.Digits.{Within, Excluded, Stays, lies, lies-decides, height, chosen-here, chosen-more, sized, trail-le, inside-rises, digits-rises, height-rises}
@@ -141,12 +141,12 @@ module _ (ds : List Decision) (s : Set) where
         cond-both (eqb d (r .culprit .decision) && eqb v (r .culprit .value)) (Some (record { reason = except s (r .culprit .decision); rests = rests }))
         (unlessLeft (r .left) (ex d v)) (λ y. y ≡ Some e)
         (λ t.
-          let both = and-parts (eqb d (r .culprit .decision)) (eqb v (r .culprit .value)) t in
-          let dd = eqb-true d (r .culprit .decision) (both .0) in
-          let vv = eqb-true v (r .culprit .value) (both .1) in
-          let was = was-free in
-          let z : _≡_ {A = ℕ} 0 1 = cc in
-          absurd (omega arith))
+        let both = and-parts (eqb d (r .culprit .decision)) (eqb v (r .culprit .value)) t in
+        let dd = eqb-true d (r .culprit .decision) (both .0) in
+        let vv = eqb-true v (r .culprit .value) (both .1) in
+        let was = was-free in
+        let z : _≡_ {A = ℕ} 0 1 = cc in
+        absurd (omega arith))
         (λ _. rw is (cond-false (hasAny (e .reason) (r .left)) None (Some e) (none-left (e .reason) k (r .left) (p .gone))))
 
     learnt : relearn ex s rests r (r .culprit .decision) (r .culprit .value) ≡ Some (record { reason = except s (r .culprit .decision); rests = rests })
@@ -158,9 +158,9 @@ module _ (ds : List Decision) (s : Set) where
     reason-lies : lies (length ds) (p .older) (except s (r .culprit .decision)) ≡ true
     reason-lies = lies-decides (length ds) (p .older) (except s (r .culprit .decision)) .1
         (λ x _ k.
-          let both = and-parts (s x) (not (eqb x (r .culprit .decision))) k in
-          let other = cond-false (eqb x (r .culprit .decision)) (r .culprit .value) (chosen (p .older) x) (not-true (eqb x (r .culprit .decision)) (both .1)) in
-          omega (arith, within x (both .0), p .latest x (both .0), other))
+        let both = and-parts (s x) (not (eqb x (r .culprit .decision))) k in
+        let other = cond-false (eqb x (r .culprit .decision)) (r .culprit .value) (chosen (p .older) x) (not-true (eqb x (r .culprit .decision)) (both .1)) in
+        omega (arith, within x (both .0), p .latest x (both .0), other))
 
     rises : height ds ex es < height ds (relearn ex s rests r) (r .stays)
     rises =
@@ -169,8 +169,8 @@ module _ (ds : List Decision) (s : Set) where
         let less : length (p .staying ++ p .older) ≤ length ds = rw (← p .rest) (omega (arith, p .shorter)) in
         rw (p .whole, p .rest)
         (height-rises ds ex (relearn ex s rests r) (p .older) (p .newer) (p .staying) long less
-          (digits-rises ds ex (relearn ex s rests r) (p .older) (p .distinct) stay
-            (inside-rises ds ex (relearn ex s rests r) (p .older) stay (r .culprit .decision) (r .culprit .value) (record { reason = except s (r .culprit .decision); rests = rests }) was-free learnt reason-lies (p .culprit-low) (p .culprit-high))))
+        (digits-rises ds ex (relearn ex s rests r) (p .older) (p .distinct) stay
+        (inside-rises ds ex (relearn ex s rests r) (p .older) stay (r .culprit .decision) (r .culprit .value) (record { reason = except s (r .culprit .decision); rests = rests }) was-free learnt reason-lies (p .culprit-low) (p .culprit-high))))
 
   -- a retreat raises the number
   pub retreat-rises : (es : List Entry) → Distinct ds es → (ex : Excluded) (rests : Bool) → Within es s → (r : Retreat) → retreat s es ≡ Some r → ((d : ℕ) → 0 < chosen es d → ex d (chosen es d) ≡ None) → height ds ex es < height ds (relearn ex s rests r) (r .stays)

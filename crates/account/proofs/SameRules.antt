@@ -1,36 +1,35 @@
 -- Two books with the same rules, each equally often, have the same lawful plans at the same costs, and two settled accounts over them report one cost.
-use mathlib.Core.Bool.{Bool, true, false, cond, not, _&&_, _||_}
-use mathlib.Core.List.{List, [], _∷_, _++_}
-use mathlib.Core.Logic.{_⊎_, inl, inr, ⊎-elim, _↔_}
+use mathlib.Core.Bool.{Bool, true, false, cond, _&&_}
+use mathlib.Core.List.{List, [], _∷_}
+use mathlib.Core.Logic.{⊎-elim, _↔_}
 use mathlib.Core.Path.{_≡_, refl, sym, _∙_, ap, subst}
-use Prim.Native.Nat.{ℕ, zero, suc, _+_, _≤_, _<_}
+use Prim.Native.Nat.{ℕ, _+_, _≤_, _<_}
 use native.Mathlib.Omega.{arith}
 use lib.Dec.{eqb, ltb}
 use lib.ListN.{length}
 use Rattle.std.specs.declared.option.Option.{Option}
 use Rattle.std.specs.declared.option.Option.the-variants.{None, Some}
-use Rattle.std.specs.shelf.Lists.{All, sumBy, countBy}
-use Rattle.std.proofs.shelf.Sums.{sumBy-cons, sumBy-append}
-use Rattle.std.proofs.shelf.Tests.{cases-bool, both-ways, false≢true, cond-true, cond-false, eqb-true, eq-eqb, ltb-false, and-parts, and-from}
+use Rattle.std.specs.shelf.Lists.{All, countBy}
+use Rattle.std.proofs.shelf.Sums.{sumBy-cons}
+use Rattle.std.proofs.shelf.Tests.{cases-bool, false≢true, cond-true, cond-false, eqb-true, eq-eqb, ltb-false, and-parts, and-from}
 use Rattle.measure.specs.Meaning.{Meaning}
 use Rattle.measure.specs.declared.price.Price.{Price}
 use Rattle.measure.proofs.Laws.{Laws}
 use Rattle.rules.specs.Conditions.{Plan, meets, met, condition}
-use Rattle.rules.specs.Plans.{Book, Set, Closed, Active, Lawful, cost, within, sizeAt, onAt}
+use Rattle.rules.specs.Plans.{Book, Set, Closed, Lawful, cost, within, sizeAt, onAt}
 use Rattle.rules.specs.declared.decision.Decision.{Decision}
 use Rattle.rules.specs.declared.literal.Literal.{Literal}
 use Rattle.rules.specs.Refusals.{when}
 use Rattle.rules.specs.declared.refusal.Refusal.{Refusal}
 use Rattle.rules.specs.declared.refusal.Refusal.the-variants.{ShortPlan}
-use Rattle.rules.specs.declared.row.Kind.{Kind}
 use Rattle.rules.specs.declared.row.Kind.the-variants.{Forbid, Activate, Price as Priced}
 use Rattle.rules.specs.declared.row.Row.{Row}
 use Rattle.account.specs.Accounts.{Account, Best}
-use Rattle.account.specs.Calls.{Call, Answer, reported, refused, best, answer, answerIf, refusal, report, written}
+use Rattle.account.specs.Calls.{reported, best, answer, answerIf, refusal, report, written}
 use Rattle.account.specs.Changes.{held}
 use Rattle.account.specs.Law.{samePairs, sameRule, SameRules, OneCost}
 use Rattle.account.specs.declared.state.State.{State}
-use Rattle.account.specs.declared.state.State.the-variants.{Open, Settled}
+use Rattle.account.specs.declared.state.State.the-variants.{Settled}
 
 -- rules that differ in nothing that a book reads
 record Alike (r s : Row) : Type 0 where
@@ -118,10 +117,10 @@ find r [] h = absurd (omega arith)
 find r (y ∷ ys) h =
     ⊎-elim (λ (e : sameRule r y ≡ true). record { rule = y; rest = ys; alike = rule-alike r y e; without = here })
     (λ (e : sameRule r y ≡ false).
-      let skip = counts-cons (sameRule r) y ys in
-      let nil = cond-false {A = ℕ} (sameRule r y) 1 0 e in
-      let f = find r ys (omega arith) in
-      record { rule = f .rule; rest = y ∷ f .rest; alike = f .alike; without = there (f .without) })
+    let skip = counts-cons (sameRule r) y ys in
+    let nil = cond-false {A = ℕ} (sameRule r y) 1 0 e in
+    let f = find r ys (omega arith) in
+    record { rule = f .rule; rest = y ∷ f .rest; alike = f .alike; without = there (f .without) })
     (cases-bool (sameRule r y))
 
 one-of-itself : (y : Row) (ys : List Row) → 0 < countBy (sameRule y) (y ∷ ys)
@@ -137,8 +136,8 @@ rearrange (r ∷ xs) ys h =
     let f = find r ys (omega (arith, h r, one-of-itself r xs)) in
     more (f .alike) (f .without)
     (rearrange xs (f .rest) (λ q.
-      let t = ap {B = ℕ} (λ (b : Bool). cond b 1 0) (test-alike q r (f .rule) (f .alike)) in
-      omega (arith, h q, counts-cons (sameRule q) r xs, counts-without (sameRule q) (f .without))))
+    let t = ap {B = ℕ} (λ (b : Bool). cond b 1 0) (test-alike q r (f .rule) (f .alike)) in
+    omega (arith, h q, counts-cons (sameRule q) r xs, counts-without (sameRule q) (f .without))))
 
 all-put-back : (P : Row → Type 0) {s : Row} {ys rest : List Row} → Without s ys rest → P s → All P rest → All P ys
 all-put-back P here p h = (p, h)
@@ -183,9 +182,9 @@ module _ (b b′ : Book) (ds : b .decisions ≡ b′ .decisions) (same : SameRul
       record {
         marked = λ d on. c .marked d (ap (λ (l : List Decision). onAt l d) ds ∙ on);
         enabled =
-          all-rearranged (λ r. met (within s p) r ≡ true → s (r .target) ≡ true)
-          (λ r r′ a h k. ap s (sym (a .targets)) ∙ h (met-alike (within s p) r r′ a ∙ k))
-          (rearrange (b .activates) (b′ .activates) (same Activate)) (c .enabled);
+            all-rearranged (λ r. met (within s p) r ≡ true → s (r .target) ≡ true)
+            (λ r r′ a h k. ap s (sym (a .targets)) ∙ h (met-alike (within s p) r r′ a ∙ k))
+            (rearrange (b .activates) (b′ .activates) (same Activate)) (c .enabled);
       }
 
 module _ (b b′ : Book) (ds : b .decisions ≡ b′ .decisions) (same : SameRules b b′) where
@@ -235,10 +234,10 @@ module _ {C : Type 0} (m : Meaning C) where
           costs = let z : c ≡ Some (b .cost) = cc in z ∙ ap costIn (sym is);
           enough = long;
           writes =
-            λ b′ held.
-            let z : b ≡ b′ = cc in
-            let w : bytes ≡ written (length (a .book .decisions)) (b .plan) buffer = cc in
-            w ∙ ap (λ (x : Best C). written (length (a .book .decisions)) (x .plan) buffer) z;
+              λ b′ held.
+              let z : b ≡ b′ = cc in
+              let w : bytes ≡ written (length (a .book .decisions)) (b .plan) buffer = cc in
+              w ∙ ap (λ (x : Best C). written (length (a .book .decisions)) (x .plan) buffer) z;
         }
 
     best-tells : (o : Option Refusal) → refusal a (best buffer) ≡ o → answerIf m a (best buffer) o ≡ reported s c bytes → Reports a buffer s c bytes
@@ -287,16 +286,16 @@ module _ {C : Type 0} (m : Meaning C) where
         let low′ = ended′ .least s′ b′ is′ (b .plan) (lawful-same (a .book) (a′ .book) ds same (b .plan) (ended .lawful b is)) in
         ap Some
         (laws .equal (b .cost) (b′ .cost) (subst (λ (x : C). m .atMost (b .cost) x ≡ true) (sym (ended′ .priced b′ is′ ∙ there)) low)
-          (subst (λ (x : C). m .atMost (b′ .cost) x ≡ true) (sym (ended .priced b is ∙ here)) low′))
+        (subst (λ (x : C). m .atMost (b′ .cost) x ≡ true) (sym (ended .priced b is ∙ here)) low′))
 
     -- two settled accounts over the same rules report one cost
     pub one-cost : OneCost m a a′
     one-cost =
         record {
           same = λ buffer buffer′ bytes bytes′ c c′ h h′.
-            let told = reported-tells a buffer Settled c bytes h in
-            let told′ = reported-tells a′ buffer′ Settled c′ bytes′ h′ in
-            told .costs ∙ costs-agree (told .in-state) (told′ .in-state) (a .best) (a′ .best) refl refl ∙ sym (told′ .costs);
+              let told = reported-tells a buffer Settled c bytes h in
+              let told′ = reported-tells a′ buffer′ Settled c′ bytes′ h′ in
+              told .costs ∙ costs-agree (told .in-state) (told′ .in-state) (a .best) (a′ .best) refl refl ∙ sym (told′ .costs);
           least = least-reported a ended;
           none = none-reported a ended;
         }

@@ -1,5 +1,5 @@
 -- Worked cases: small books with the answers that a planner gives over them. All follow by computing from the definitions.
-use mathlib.Core.Bool.{Bool, true, false}
+use mathlib.Core.Bool.{true, false}
 use mathlib.Core.List.{List, [], _∷_, _++_}
 use mathlib.Core.Path.{_≡_, refl}
 use Prim.Native.Nat.{ℕ}
@@ -19,8 +19,8 @@ use Rattle.rules.specs.declared.literal.Literal.{Literal}
 use Rattle.rules.specs.declared.row.Kind.{Kind}
 use Rattle.rules.specs.declared.row.Kind.the-variants.{Forbid, Activate, Price as Priced}
 use Rattle.rules.specs.declared.rule.Rule.{Rule}
-use Rattle.account.specs.Accounts.{Account, fresh}
-use Rattle.account.specs.Calls.{Call, Answer, add, withdraw, run, best, exclusion, done, ran, reported, excluded, answer, history}
+use Rattle.account.specs.Accounts.{fresh}
+use Rattle.account.specs.Calls.{Call, Answer, add, withdraw, run, best, exclusion, ran, reported, excluded, answer, history}
 use Rattle.account.specs.Steps.{restsOn}
 use Rattle.account.specs.declared.state.State.the-variants.{Open, Settled}
 
