@@ -1,4 +1,10 @@
 pub mod Formed
+pub mod Cells
+pub mod Digits
+pub mod Retreats
+pub mod Bound
+pub mod SameRules
+pub mod WorkedShown
 pub mod Meeting
 pub mod Prices
 pub mod Trails
@@ -12,3 +18,4 @@ pub mod Changed
 pub mod Histories
 pub mod Reports
 pub mod Planned
+pub mod Planning
