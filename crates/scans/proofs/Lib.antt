@@ -1,2 +1,3 @@
 pub mod Firsts
 pub mod Costs
+pub mod Gathered

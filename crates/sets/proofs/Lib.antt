@@ -1,0 +1,4 @@
+pub mod SearchLaws
+pub mod BitLaws
+pub mod Decisions
+pub mod Values

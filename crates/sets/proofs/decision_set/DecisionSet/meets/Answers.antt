@@ -1,0 +1,6 @@
+use native.Mathlib.Omega.{arith}
+use Rattle.sets.proofs.Decisions.{common-member}
+use Rattle.sets.proofs.decision_set.DecisionSet.meets.Needs as need
+
+pub returns : need.returns
+returns c = common-member (c .args .self) (c .args .other) (omega arith)

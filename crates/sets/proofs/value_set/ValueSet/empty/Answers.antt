@@ -1,0 +1,5 @@
+use Rattle.sets.proofs.Values.{values-empty}
+use Rattle.sets.proofs.value_set.ValueSet.empty.Needs as need
+
+pub returns : need.returns
+returns c = values-empty
