@@ -16,6 +16,7 @@ pub use checks::check_row;
 pub use decision::Decision;
 pub use judging::judge;
 pub use literal::Literal;
+pub use literal::value_of;
 pub use refusal::Layer;
 pub use refusal::Refusal;
 pub use row::Kind;

@@ -2,7 +2,7 @@
 use mathlib.Core.Bool.{Bool, true, false, cond, not, _&&_, _||_}
 use mathlib.Core.Logic.{_⊎_, inl, inr}
 use mathlib.Core.Path.{_≡_, refl, sym, ap, ap₂, _∙_, fun-ext}
-use Prim.Native.Nat.{ℕ, zero, suc, _+_, _-_, _*_, _/_, _%_, _^_, _≤_, _<_}
+use Prim.Native.Nat.{ℕ, zero, suc, _+_, _-_, _*_, _/_, _%_, _^_, _<_}
 use native.Mathlib.Nat.{add-comm, pow-suc, mod-lt, mod-one, mod-eq-of-lt, le-of-suc-le-suc, not-suc-le-zero, lt-of-le-of-lt}
 use native.Mathlib.Numerals.{one-add}
 use native.Mathlib.Omega.{arith}
@@ -13,13 +13,18 @@ use lib.Pow.{pow-pos, pow-lt, shr-shr, mod-pow-add}
 use Rattle.std.proofs.shelf.Tests.{eqb-true, ne-eqb, not-false, not-from-false, or-right}
 use Rattle.sets.specs.Members.{bit}
 use Rattle.sets.specs.Searches.{someBelow, countOutside}
+use Rattle.sets.proofs.BoolLaws.{or-failed}
 use Rattle.sets.proofs.SearchLaws.{some-below-none}
 
--- a bit is one of two digits
+-- 2 and more is no digit
+not-digit : {A : Type 0} {n : ℕ} → suc (suc n) < 2 → A
+not-digit h = absurd (not-suc-le-zero (le-of-suc-le-suc (le-of-suc-le-suc h)))
+
+-- a digit is 0 or 1
 digit-cases : (n : ℕ) → n < 2 → (n ≡ 0) ⊎ (n ≡ 1)
 digit-cases zero h = inl refl
 digit-cases (suc zero) h = inr refl
-digit-cases (suc (suc n)) h = absurd (not-suc-le-zero (le-of-suc-le-suc (le-of-suc-le-suc h)))
+digit-cases (suc (suc n)) h = not-digit h
 
 -- the lowest bit
 pub bit-zero : (n : ℕ) → bit n 0 ≡ eqb (n % 2) 1
@@ -46,15 +51,14 @@ module _ (op : ℕ → ℕ → ℕ) (on : Bool → Bool → Bool)
     (shift : (a b k : ℕ) → op a b / 2 ^ k ≡ op (a / 2 ^ k) (b / 2 ^ k))
     (low : (a b k : ℕ) → op a b % 2 ^ k ≡ op (a % 2 ^ k) (b % 2 ^ k))
     (digits : (x y : ℕ) → x < 2 → y < 2 → eqb (op x y) 1 ≡ on (eqb x 1) (eqb y 1)) where
+  -- a bit of such an operation
   bit-by-bit : (a b k : ℕ) → bit (op a b) k ≡ on (bit a k) (bit b k)
   unfolding bit
   bit-by-bit a b k =
       ap (λ (x : ℕ). eqb (x % 2) 1) (shift a b k) ∙ ap (λ (x : ℕ). eqb x 1) (low (a / 2 ^ k) (b / 2 ^ k) 1)
       ∙ digits (a / 2 ^ k % 2) (b / 2 ^ k % 2) (omega arith) (omega arith)
 
-not-digit : {A : Type 0} {x : ℕ} → suc (suc x) < 2 → A
-not-digit h = absurd (not-suc-le-zero (le-of-suc-le-suc (le-of-suc-le-suc h)))
-
+-- `|` on two digits
 or-digits : (x y : ℕ) → x < 2 → y < 2 → eqb (bitOr x y) 1 ≡ (eqb x 1 || eqb y 1)
 or-digits zero y hx hy = refl
 or-digits (suc zero) zero hx hy = refl
@@ -62,6 +66,7 @@ or-digits (suc zero) (suc zero) hx hy = refl
 or-digits (suc zero) (suc (suc y)) hx hy = not-digit hy
 or-digits (suc (suc x)) y hx hy = not-digit hx
 
+-- `&` on two digits
 and-digits : (x y : ℕ) → x < 2 → y < 2 → eqb (bitAnd x y) 1 ≡ (eqb x 1 && eqb y 1)
 and-digits zero y hx hy = refl
 and-digits (suc zero) zero hx hy = refl
@@ -96,6 +101,7 @@ bit-complement zero n k h l = absurd (not-suc-le-zero l)
 bit-complement (suc w) n zero h l =
     bit-zero (2 ^ suc w - 1 - n) ∙ flip (n % 2) (omega arith) (omega (arith, pow-suc 2 w)) ∙ sym (ap not (bit-zero n))
   where
+    -- a digit taken from 1 is the other digit
     flip : (d : ℕ) {e : ℕ} → d < 2 → e ≡ 1 - d → eqb e 1 ≡ not (eqb d 1)
     flip zero h p = ap (λ (x : ℕ). eqb x 1) p
     flip (suc zero) h p = ap (λ (x : ℕ). eqb x 1) p
@@ -110,10 +116,6 @@ bit-remove w n d k hd hk =
     bit-and n (2 ^ w - 1 - 2 ^ d) k
     ∙ ap (λ (b : Bool). bit n k && b) (bit-complement w (2 ^ d) k (pow-lt hd) hk ∙ ap not (bit-single d k))
 
-or-none : (b : Bool) → (b || false) ≡ b
-or-none true = refl
-or-none false = refl
-
 -- one more low digit
 low-more : (n m : ℕ) → n % 2 ^ suc m ≡ n / 2 ^ m % 2 * 2 ^ m + n % 2 ^ m
 low-more n m = ap (λ (x : ℕ). n % 2 ^ x) (sym (one-add m)) ∙ mod-pow-add n 1 m
@@ -127,9 +129,10 @@ some-low-bit (suc w) n =
     ∙ either (n / 2 ^ w % 2) (n % 2 ^ w) (bit-digit n w (n / 2 ^ w % 2) refl) (omega arith)
     ∙ ap (λ (x : ℕ). not (eqb x 0)) (sym (low-more n w))
   where
+    -- a number is 0 where its high digit and what is below it are
     either : (d r : ℕ) {b : Bool} → b ≡ eqb d 1 → d < 2 → (not (eqb r 0) || b) ≡ not (eqb (d * 2 ^ w + r) 0)
     either zero r e h =
-        ap (λ (b : Bool). not (eqb r 0) || b) e ∙ or-none (not (eqb r 0)) ∙ ap (λ (x : ℕ). not (eqb x 0)) (omega arith)
+        or-failed (not (eqb r 0)) _ e ∙ ap (λ (x : ℕ). not (eqb x 0)) (omega arith)
     either (suc zero) r e h =
         or-right (not (eqb r 0)) _ e ∙ sym (not-from-false (eqb (1 * 2 ^ w + r) 0) (ne-eqb (1 * 2 ^ w + r) 0 (λ (z : 1 * 2 ^ w + r ≡ 0). omega (arith, pow-pos w))))
     either (suc (suc d)) r e h = not-digit h
@@ -154,6 +157,7 @@ unfolding trailingZeros
 bit-before-first zero n k h = absurd (not-suc-le-zero h)
 bit-before-first (suc w) n k h = at k (digit-cases (n % 2) (omega arith)) h (bit-before-first w (n / 2))
   where
+    -- by the lowest digit
     at : (k : ℕ) → (n % 2 ≡ 0) ⊎ (n % 2 ≡ 1) → k < under (n % 2) (trailingZeros w (n / 2))
         → ((j : ℕ) → j < trailingZeros w (n / 2) → bit (n / 2) j ≡ false) → bit n k ≡ false
     at k (inr e) h rest = absurd (not-suc-le-zero (rw e at h))
@@ -166,6 +170,7 @@ unfolding trailingZeros
 bit-first zero n h = absurd (not-suc-le-zero h)
 bit-first (suc w) n h = at (digit-cases (n % 2) (omega arith)) h (bit-first w (n / 2))
   where
+    -- by the lowest digit
     at : (n % 2 ≡ 0) ⊎ (n % 2 ≡ 1) → under (n % 2) (trailingZeros w (n / 2)) < suc w
         → (trailingZeros w (n / 2) < w → bit (n / 2) (trailingZeros w (n / 2)) ≡ true)
         → bit n (under (n % 2) (trailingZeros w (n / 2))) ≡ true
@@ -193,8 +198,9 @@ ones-outside t n zero same = ap ones (mod-one n) ∙ ones-ones 0
 ones-outside t n (suc m) same =
     ones-more n m
     ∙ ap₂ (λ (x y : ℕ). x + y) (ones-outside t n m (λ k h. same k (omega arith)))
-        (ap (λ (b : Bool). cond b 1 0) (same m (omega arith)) ∙ turned (t (suc m)))
+    (ap (λ (b : Bool). cond b 1 0) (same m (omega arith)) ∙ turned (t (suc m)))
   where
+    -- one is added where the test fails
     turned : (b : Bool) → _≡_ {A = ℕ} (cond (not b) 1 0) (cond b 0 1)
     turned true = refl
     turned false = refl

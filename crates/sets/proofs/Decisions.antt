@@ -1,17 +1,18 @@
 -- Which decisions are in a set, by its bits.
-use mathlib.Core.Bool.{Bool, true, false, not, _&&_, _||_}
-use mathlib.Core.Logic.{_⊎_, inl, inr}
+use mathlib.Core.Bool.{Bool, false, not, _&&_, _||_}
+use mathlib.Core.Logic.{inl, inr}
 use mathlib.Core.Path.{_≡_, refl, sym, ap, ap₂, _∙_, fun-ext}
 use Prim.Native.Nat.{ℕ, _-_, _*_, _%_, _^_, _≤_, _<_}
 use native.Mathlib.Omega.{arith}
 use lib.Bits.{bitAnd, bitOr}
 use lib.Dec.{eqb, ltb}
 use Rattle.std.proofs.shelf.Bits.{one-shl}
-use Rattle.std.proofs.shelf.Tests.{cases-lt, lt-ltb, le-ltb, ne-eqb, and-left, and-from, or-from}
+use Rattle.std.proofs.shelf.Tests.{cases-lt, lt-ltb, le-ltb, ne-eqb, and-left, or-from, not-from-false}
 use Rattle.sets.specs.declared.decision_set.DecisionSet.{DecisionSet}
 use Rattle.sets.specs.Members.{bit, members}
 use Rattle.sets.specs.Searches.{someBelow}
 use Rattle.sets.proofs.BitLaws.{bit-or, bit-of-zero, bit-single, bit-remove, some-bit, common-bit}
+use Rattle.sets.proofs.BoolLaws.{and-held, not-twice}
 use Rattle.sets.proofs.SearchLaws.{some-below-same}
 
 -- below 64 a decision is in a set where its bit is set
@@ -37,43 +38,35 @@ members-empty = members-are (record { bits = 0 }) (λ x. false) (λ x h. bit-of-
 pub members-union : (s o : DecisionSet) → members (record { bits = bitOr (s .bits) (o .bits) }) ≡ (λ x. members s x || members o x)
 members-union s o =
     members-are (record { bits = bitOr (s .bits) (o .bits) }) (λ x. members s x || members o x)
-      (λ x h. bit-or (s .bits) (o .bits) x ∙ sym (ap₂ (λ (p q : Bool). p || q) (member-bit s x h) (member-bit o x h)))
-      (λ x h. or-from (members s x) (members o x) (no-member s x h) (no-member o x h))
+    (λ x h. bit-or (s .bits) (o .bits) x ∙ sym (ap₂ (λ (p q : Bool). p || q) (member-bit s x h) (member-bit o x h)))
+    (λ x h. or-from (members s x) (members o x) (no-member s x h) (no-member o x h))
 
 -- the set with one more bit
 pub members-with : (s : DecisionSet) (d : ℕ) → d < 64
     → members (record { bits = bitOr (s .bits) (1 * 2 ^ d % 2 ^ 64) }) ≡ (λ x. members s x || (eqb x d && ltb d 64))
 members-with s d hd =
     members-are (record { bits = bitOr (s .bits) (1 * 2 ^ d % 2 ^ 64) }) (λ x. members s x || (eqb x d && ltb d 64))
-      (λ x h. bit-or (s .bits) (1 * 2 ^ d % 2 ^ 64) x
-        ∙ ap₂ (λ (p q : Bool). p || q) (sym (member-bit s x h))
-            (ap (λ (n : ℕ). bit n x) (one-shl d 64 hd) ∙ bit-single d x ∙ sym (and-held (eqb x d) (ltb d 64) (lt-ltb d 64 hd))))
-      (λ x h. or-from (members s x) (eqb x d && ltb d 64) (no-member s x h)
-        (and-left (eqb x d) (ltb d 64) (ne-eqb x d (λ (e : x ≡ d). omega arith))))
-  where
-    and-held : (p q : Bool) → q ≡ true → (p && q) ≡ p
-    and-held true q e = e
-    and-held false q e = refl
+    (λ x h. bit-or (s .bits) (1 * 2 ^ d % 2 ^ 64) x
+    ∙ ap₂ (λ (p q : Bool). p || q) (sym (member-bit s x h))
+    (ap (λ (n : ℕ). bit n x) (one-shl d 64 hd) ∙ bit-single d x ∙ sym (and-held (eqb x d) (ltb d 64) (lt-ltb d 64 hd))))
+    (λ x h. or-from (members s x) (eqb x d && ltb d 64) (no-member s x h)
+    (and-left (eqb x d) (ltb d 64) (ne-eqb x d (λ (e : x ≡ d). omega arith))))
 
 -- the set with one bit removed
 pub members-without : (s : DecisionSet) (d : ℕ) → d < 64
     → members (record { bits = bitAnd (s .bits) (2 ^ 64 - 1 - 1 * 2 ^ d % 2 ^ 64) }) ≡ (λ x. members s x && not (eqb x d))
 members-without s d hd =
     members-are (record { bits = bitAnd (s .bits) (2 ^ 64 - 1 - 1 * 2 ^ d % 2 ^ 64) }) (λ x. members s x && not (eqb x d))
-      (λ x h. ap (λ (n : ℕ). bit (bitAnd (s .bits) (2 ^ 64 - 1 - n)) x) (one-shl d 64 hd) ∙ bit-remove 64 (s .bits) d x hd h
-        ∙ ap (λ (p : Bool). p && not (eqb x d)) (sym (member-bit s x h)))
-      (λ x h. and-left (members s x) (not (eqb x d)) (no-member s x h))
+    (λ x h. ap (λ (n : ℕ). bit (bitAnd (s .bits) (2 ^ 64 - 1 - n)) x) (one-shl d 64 hd) ∙ bit-remove 64 (s .bits) d x hd h
+    ∙ ap (λ (p : Bool). p && not (eqb x d)) (sym (member-bit s x h)))
+    (λ x h. and-left (members s x) (not (eqb x d)) (no-member s x h))
 
 -- to remove what no set has changes nothing
 pub members-without-none : (s : DecisionSet) (d : ℕ) → 64 ≤ d → members s ≡ (λ x. members s x && not (eqb x d))
 members-without-none s d hd =
     members-are s (λ x. members s x && not (eqb x d))
-      (λ x h. sym (ap₂ (λ (p q : Bool). p && not q) (member-bit s x h) (ne-eqb x d (λ (e : x ≡ d). omega arith)) ∙ and-true (bit (s .bits) x)))
-      (λ x h. and-left (members s x) (not (eqb x d)) (no-member s x h))
-  where
-    and-true : (p : Bool) → (p && true) ≡ p
-    and-true true = refl
-    and-true false = refl
+    (λ x h. sym (and-held (members s x) (not (eqb x d)) (not-from-false (eqb x d) (ne-eqb x d (λ (e : x ≡ d). omega arith))) ∙ member-bit s x h))
+    (λ x h. and-left (members s x) (not (eqb x d)) (no-member s x h))
 
 -- two sets with a bit in common have a decision in common
 pub common-member : (s o : DecisionSet) → s .bits < 2 ^ 64
@@ -81,8 +74,10 @@ pub common-member : (s o : DecisionSet) → s .bits < 2 ^ 64
 common-member s o h =
     sym (common-bit 64 (s .bits) (o .bits) h)
     ∙ some-below-same (λ x. bit (s .bits) x && bit (o .bits) x) (λ x. members s x && members o x) 64
-        (λ x l. sym (ap₂ (λ (p q : Bool). p && q) (member-bit s x l) (member-bit o x l)))
+    (λ x l. sym (ap₂ (λ (p q : Bool). p && q) (member-bit s x l) (member-bit o x l)))
 
--- a set with a bit has a decision
-pub some-member : (s : DecisionSet) → s .bits < 2 ^ 64 → not (eqb (s .bits) 0) ≡ someBelow (members s) 64
-some-member s h = sym (some-bit 64 (s .bits) h) ∙ some-below-same (bit (s .bits)) (members s) 64 (λ x l. sym (member-bit s x l))
+-- a set with no bit has no decision
+pub no-members : (s : DecisionSet) → s .bits < 2 ^ 64 → eqb (s .bits) 0 ≡ not (someBelow (members s) 64)
+no-members s h =
+    not-twice (eqb (s .bits) 0)
+    ∙ ap not (sym (some-bit 64 (s .bits) h) ∙ some-below-same (bit (s .bits)) (members s) 64 (λ x l. sym (member-bit s x l)))

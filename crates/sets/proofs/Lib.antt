@@ -1,3 +1,5 @@
+-- The lemmas of the crate.
+pub mod BoolLaws
 pub mod SearchLaws
 pub mod BitLaws
 pub mod Decisions

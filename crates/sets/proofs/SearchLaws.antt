@@ -1,6 +1,6 @@
 -- What the searches up to a bound find.
 use mathlib.Core.Bool.{Bool, true, false, _||_}
-use mathlib.Core.Logic.{_⊎_, inl, inr}
+use mathlib.Core.Logic.{inl, inr}
 use mathlib.Core.Path.{_≡_, refl, sym, ap, ap₂, _∙_}
 use Prim.Native.Nat.{ℕ, zero, suc, _<_}
 use native.Mathlib.Nat.{not-suc-le-zero}
@@ -30,8 +30,8 @@ unfolding someBelow
 some-below-from t zero k h e = absurd (not-suc-le-zero h)
 some-below-from t (suc n) k h e =
     elim (cases-eq k n) [
-      inl same ↦ or-right (someBelow t n) (t n) (ap t (sym same) ∙ e)
-    | inr other ↦ or-left (someBelow t n) (t n) (some-below-from t n k (omega arith) e)
+      | inl same ↦ or-right (someBelow t n) (t n) (ap t (sym same) ∙ e)
+      | inr other ↦ or-left (someBelow t n) (t n) (some-below-from t n k (omega arith) e)
     ]
 
 -- one below the bound of which the test holds
@@ -40,8 +40,8 @@ unfolding someBelow
 some-below-found t zero e = let z : _≡_ {A = ℕ} 0 1 = cc in absurd (omega arith)
 some-below-found t (suc n) e =
     elim (or-cases (someBelow t n) (t n) e) [
-      inl below ↦ (let f = some-below-found t n below in (f .0, omega arith, f .2))
-    | inr here ↦ (n, omega arith, here)
+      | inl below ↦ (let f = some-below-found t n below in (f .0, omega arith, f .2))
+      | inr here ↦ (n, omega arith, here)
     ]
 
 -- where a test holds of all up to a bound, none is outside
@@ -57,9 +57,9 @@ unfolding smallestOutside
 first-outside t zero z h all fails = absurd (not-suc-le-zero h)
 first-outside t (suc n) z h all fails =
     elim (cases-eq z n) [
-      inl same ↦
-        ap₂ (λ (o : Option ℕ) (b : Bool). orElse o (unless b (suc n)))
+      | inl same ↦
+          ap₂ (λ (o : Option ℕ) (b : Bool). orElse o (unless b (suc n)))
           (none-outside t n (λ k l. all k (omega arith))) (ap (λ (x : ℕ). t (suc x)) (sym same) ∙ fails)
-        ∙ ap (λ (x : ℕ). Some (suc x)) (sym same)
-    | inr other ↦ ap (λ (o : Option ℕ). orElse o (unless (t (suc n)) (suc n))) (first-outside t n z (omega arith) all fails)
+          ∙ ap (λ (x : ℕ). Some (suc x)) (sym same)
+      | inr other ↦ ap (λ (o : Option ℕ). orElse o (unless (t (suc n)) (suc n))) (first-outside t n z (omega arith) all fails)
     ]

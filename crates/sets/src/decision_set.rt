@@ -23,7 +23,7 @@ impl DecisionSet {
     pub fn has(self, d: u8) -> bool
         ensures { λ r. ⌜ r ≡ members self d ⌝ }
     {
-        d < 64 && self.bits >> d & 1 == 1
+        d < 64 && (self.bits >> d) & 1 == 1
     }
 
     /// The set with one more decision; a decision from 64 on changes nothing.
@@ -31,7 +31,9 @@ impl DecisionSet {
         ensures { λ r. ⌜ members r ≡ (λ x. members self x || (eqb x d && ltb d 64)) ⌝ }
     {
         if d < 64 {
-            DecisionSet { bits: self.bits | 1u64 << d }
+            DecisionSet {
+                bits: self.bits | (1u64 << d),
+            }
         } else {
             self
         }
@@ -42,7 +44,9 @@ impl DecisionSet {
         ensures { λ r. ⌜ members r ≡ (λ x. members self x && not (eqb x d)) ⌝ }
     {
         if d < 64 {
-            DecisionSet { bits: self.bits & !(1u64 << d) }
+            DecisionSet {
+                bits: self.bits & !(1u64 << d),
+            }
         } else {
             self
         }
@@ -52,7 +56,9 @@ impl DecisionSet {
     pub fn union(self, other: DecisionSet) -> DecisionSet
         ensures { λ r. ⌜ members r ≡ (λ x. members self x || members other x) ⌝ }
     {
-        DecisionSet { bits: self.bits | other.bits }
+        DecisionSet {
+            bits: self.bits | other.bits,
+        }
     }
 
     /// Whether some decision is in both sets.

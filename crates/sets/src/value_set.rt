@@ -24,7 +24,7 @@ impl ValueSet {
     pub fn has(self, v: u8) -> bool
         ensures { λ r. ⌜ r ≡ values self v ⌝ }
     {
-        1 <= v && v <= 16 && self.bits >> (v - 1) & 1 == 1
+        1 <= v && v <= 16 && (self.bits >> (v - 1)) & 1 == 1
     }
 
     /// The set with one more value; a value outside 1 to 16 changes nothing.
@@ -32,7 +32,9 @@ impl ValueSet {
         ensures { λ r. ⌜ values r ≡ (λ x. values self x || (eqb x v && (leb 1 v && leb v 16))) ⌝ }
     {
         if 1 <= v && v <= 16 {
-            ValueSet { bits: self.bits | 1u16 << (v - 1) }
+            ValueSet {
+                bits: self.bits | (1u16 << (v - 1)),
+            }
         } else {
             self
         }
@@ -42,8 +44,13 @@ impl ValueSet {
     pub fn smallest_outside(self, size: u8) -> Option<u8>
         ensures { λ r. ⌜ r ≡ smallestOutside (values self) (min size 16) ⌝ }
     {
-        let inside = (!self.bits).trailing_zeros() as u8;
-        if inside < size.min(16) { Some(inside + 1) } else { None }
+        // The values 1 to `filled` are in the set, and the next is not.
+        let filled = (!self.bits).trailing_zeros() as u8;
+        if filled < size.min(16) {
+            Some(filled + 1)
+        } else {
+            None
+        }
     }
 
     /// How many of the values 1 to `size`, of 16 at most, are not in the set.
@@ -58,5 +65,9 @@ impl ValueSet {
 fn first_bits(count: u8) -> u16
     ensures { λ r. ⌜ r ≡ 2 ^ min count 16 - 1 ⌝ }
 {
-    if count < 16 { (1u16 << count) - 1 } else { u16::MAX }
+    if count < 16 {
+        (1u16 << count) - 1
+    } else {
+        u16::MAX
+    }
 }

@@ -1,3 +1,4 @@
+-- The tested bit is the decision's own, and from 64 on there is none.
 use mathlib.Core.Path.{sym, _∙_}
 use Rattle.std.proofs.shelf.Tests.{le-ltb}
 use Rattle.sets.proofs.BitLaws.{bit-test}

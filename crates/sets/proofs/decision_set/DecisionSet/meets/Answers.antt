@@ -1,3 +1,4 @@
+-- A bit in both means a decision in both, and the other way round.
 use native.Mathlib.Omega.{arith}
 use Rattle.sets.proofs.Decisions.{common-member}
 use Rattle.sets.proofs.decision_set.DecisionSet.meets.Needs as need

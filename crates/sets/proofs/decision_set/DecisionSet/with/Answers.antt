@@ -1,3 +1,4 @@
+-- One more bit is one more decision.
 use Rattle.sets.proofs.Decisions.{members-with}
 use Rattle.sets.proofs.decision_set.DecisionSet.with.Needs as need
 

@@ -1,3 +1,4 @@
+-- One bit removed is one decision removed, and from 64 on there is none to remove.
 use Rattle.sets.proofs.Decisions.{members-without, members-without-none}
 use Rattle.sets.proofs.decision_set.DecisionSet.without.Needs as need
 

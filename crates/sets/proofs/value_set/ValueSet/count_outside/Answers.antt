@@ -1,3 +1,4 @@
+-- The ones of the complement, up to the size, are the values outside.
 use mathlib.Core.Path.{ap, _∙_}
 use native.Mathlib.Omega.{arith}
 use Prim.Native.Nat.{ℕ, min, _-_}

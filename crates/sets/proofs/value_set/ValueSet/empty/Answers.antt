@@ -1,3 +1,4 @@
+-- No bit means no value.
 use Rattle.sets.proofs.Values.{values-empty}
 use Rattle.sets.proofs.value_set.ValueSet.empty.Needs as need
 

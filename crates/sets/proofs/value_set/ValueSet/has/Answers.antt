@@ -1,3 +1,4 @@
+-- The tested bit is the value's own, and outside 1 to 16 there is none.
 use mathlib.Core.Bool.{false}
 use mathlib.Core.Path.{_≡_, ap, _∙_}
 use Prim.Native.Nat.{_<_}
@@ -15,13 +16,13 @@ returns-then-v-le16 c = value-test (c .args .self) (c .args .v) (c .if-v-le16 .t
 pub returns-else-v-le16 : need.returns-else-v-le16
 returns-else-v-le16 c =
     elim (c .if-v-ge1 .came) [
-      then-v-ge1 w ↦
-        let above : 16 < c .args .v = omega arith in
-        let outside = no-value (c .args .self) (c .args .v) above in
-        let failed = lt-leb (c .args .v) 16 above in
-        cc
-    | else-v-ge1 w ↦
-        let outside : values (c .args .self) (c .args .v) ≡ false = ap (values (c .args .self)) (omega arith) ∙ no-value-zero (c .args .self) in
-        let failed : leb 1 (c .args .v) ≡ false = lt-leb 1 (c .args .v) (omega arith) in
-        cc
+      | then-v-ge1 w ↦
+          let above : 16 < c .args .v = omega arith in
+          let outside = no-value (c .args .self) (c .args .v) above in
+          let failed = lt-leb (c .args .v) 16 above in
+          cc
+      | else-v-ge1 w ↦
+          let outside : values (c .args .self) (c .args .v) ≡ false = ap (values (c .args .self)) (omega arith) ∙ no-value-zero (c .args .self) in
+          let failed : leb 1 (c .args .v) ≡ false = lt-leb 1 (c .args .v) (omega arith) in
+          cc
     ]

@@ -1,3 +1,4 @@
+-- One more bit is one more value.
 use native.Mathlib.Omega.{arith}
 use Rattle.sets.proofs.Values.{values-with}
 use Rattle.sets.proofs.value_set.ValueSet.with.Needs as need
