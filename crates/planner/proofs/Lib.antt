@@ -1,3 +1,4 @@
 pub mod Opened
 pub mod Picks
 pub mod Shaped
+pub mod Trying

@@ -1,1 +1,3 @@
 pub mod Books
+pub mod Planners
+pub mod Trials

@@ -1,4 +1,10 @@
 //! The planner: rules in, the cheapest lawful plan out, by dynamic backtracking with branch and bound.
 
+mod best;
 mod book;
 mod pick;
+mod planner;
+mod trials;
+
+pub use best::Best;
+pub use planner::Planner;

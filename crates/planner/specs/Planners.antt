@@ -1,0 +1,25 @@
+-- The account that a planner stands for.
+use Rattle.std.specs.Options.{mapped}
+use Rattle.account.specs.Accounts.{Account, Best as Held}
+use Rattle.rules.specs.Conditions.{fromBytes}
+use Rattle.tables.specs.Excluded.{exclusionsOf}
+use Rattle.tables.specs.Trails.{trailOf}
+use Rattle.planner.specs.Books.{bookOf}
+use Rattle.planner.specs.declared.best.Best.{Best}
+use Rattle.planner.specs.declared.planner.Planner.{Planner}
+
+-- the best, its bytes read as a plan
+abbrev pub bestOf : {M : Type 0} → Best M → Held M
+bestOf b = record { plan = fromBytes (b .plan); cost = b .cost }
+
+-- the account of a planner
+abbrev pub accountOf : {M : Type 0} → Planner M → Account M
+accountOf p =
+    record {
+      book = bookOf (p .book);
+      ranks = fromBytes (p .ranks);
+      trail = trailOf (p .trail);
+      exclusions = exclusionsOf (p .exclusions);
+      best = mapped bestOf (p .best);
+      state = p .state;
+    }
