@@ -1,4 +1,5 @@
 pub mod Opened
 pub mod Picks
 pub mod Shaped
+pub mod Stepped
 pub mod Trying

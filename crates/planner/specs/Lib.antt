@@ -1,3 +1,4 @@
+pub mod Bests
 pub mod Books
 pub mod Planners
 pub mod Trials

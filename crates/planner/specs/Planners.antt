@@ -1,16 +1,12 @@
 -- The account that a planner stands for.
 use Rattle.std.specs.Options.{mapped}
-use Rattle.account.specs.Accounts.{Account, Best as Held}
+use Rattle.account.specs.Accounts.{Account}
 use Rattle.rules.specs.Conditions.{fromBytes}
 use Rattle.tables.specs.Excluded.{exclusionsOf}
 use Rattle.tables.specs.Trails.{trailOf}
+use Rattle.planner.specs.Bests.{bestOf}
 use Rattle.planner.specs.Books.{bookOf}
-use Rattle.planner.specs.declared.best.Best.{Best}
 use Rattle.planner.specs.declared.planner.Planner.{Planner}
-
--- the best, its bytes read as a plan
-abbrev pub bestOf : {M : Type 0} → Best M → Held M
-bestOf b = record { plan = fromBytes (b .plan); cost = b .cost }
 
 -- the account of a planner
 abbrev pub accountOf : {M : Type 0} → Planner M → Account M

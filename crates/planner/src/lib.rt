@@ -5,6 +5,7 @@ mod book;
 mod pick;
 mod planner;
 mod trials;
+mod weighing;
 
 pub use best::Best;
 pub use planner::Planner;

@@ -8,6 +8,7 @@ ghost use Rattle.std.specs.Holes.{removed};
 ghost use Rattle.std.specs.declared.option.Option.the-variants.{None};
 ghost use Rattle.account.specs.Changes.{held, withRules};
 ghost use Rattle.rules.specs.Judging.{openRefusal, sized};
+ghost use Rattle.rules.specs.Plans.{sizeAt};
 ghost use Rattle.scans.specs.Known.{Known};
 ghost use Rattle.tables.specs.Shapes.{shaped};
 ghost use Rattle.tables.specs.Tables.{tableRows};
@@ -66,6 +67,15 @@ impl Book {
         ensures sizes { λ r. ⌜ sized (now r) ≡ true ⌝ }
     {
         &self.decisions[0..self.count]
+    }
+
+    /// How many values a decision has.
+    pub fn size_of(&self, decision: u8) -> u8
+        requires { ⌜ decision < length (bookOf (now self) .decisions) ⌝ }
+        ensures value { λ r. ⌜ r ≡ sizeAt (bookOf (now (self .entry)) .decisions) decision ⌝ }
+        ensures few { λ r. ⌜ r ≤ 16 ⌝ }
+    {
+        self.decisions()[decision as usize].size
     }
 
     /// The table of the rules of a kind.
