@@ -1,3 +1,4 @@
+pub mod Answers
 pub mod Bests
 pub mod Books
 pub mod Planners

@@ -1,6 +1,11 @@
 -- The account that a planner stands for.
+use mathlib.Core.Bool.{Bool, true, false}
 use Rattle.std.specs.Options.{mapped}
-use Rattle.account.specs.Accounts.{Account}
+use Rattle.std.specs.declared.option.Option.{Option}
+use Rattle.std.specs.declared.option.Option.the-variants.{None}
+use Rattle.account.specs.Accounts.{Account, Best}
+use Rattle.account.specs.declared.state.State.{State}
+use Rattle.account.specs.declared.state.State.the-variants.{Open, Settled}
 use Rattle.rules.specs.Conditions.{fromBytes}
 use Rattle.tables.specs.Excluded.{exclusionsOf}
 use Rattle.tables.specs.Trails.{trailOf}
@@ -19,3 +24,13 @@ accountOf p =
       best = mapped bestOf (p .best);
       state = p .state;
     }
+
+-- whether a state is open
+abbrev pub isOpen : State → Bool
+isOpen Open = true
+isOpen Settled = false
+
+-- a best, unless a test tells against it
+abbrev pub unlessTold : {C : Type 0} → Bool → Option (Best C) → Option (Best C)
+unlessTold true best = None
+unlessTold false best = best

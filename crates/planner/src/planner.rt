@@ -7,6 +7,8 @@ use account::State;
 use tables::Exclusions;
 use tables::Trail;
 
+mod calls;
+mod changes;
 mod steps;
 
 /// A planner of fixed size over the costs of a measure.
