@@ -16,16 +16,21 @@ use Rattle.std.specs.Iters.{counting}
 use Rattle.std.specs.declared.option.Option.{Option}
 use Rattle.std.specs.declared.option.Option.the-variants.{None, Some}
 use Rattle.account.specs.Accounts.{Account, Best, Entry, Exclusion}
-use Rattle.account.specs.Calls.{Answer, Call, accepted, after, afterIf, answer, answerIf, best, leaves, made, ran, refusal, report, reported, run, written}
+use Rattle.account.specs.Calls.{Answer, Call, accepted, add, after, afterIf, answer, answerIf, best, leaves, made, ran, refusal, refused, report, reported, run, written}
 use Rattle.account.specs.Steps.{advance, advanceIn, oneIfOpen, step}
 use Rattle.account.specs.declared.state.State.{State}
 use Rattle.account.specs.declared.state.State.the-variants.{Open, Settled}
 use Rattle.measure.specs.Meaning.{Meaning}
 use Rattle.rules.specs.Conditions.{fromBytes}
 use Rattle.rules.specs.Plans.{Book}
-use Rattle.rules.specs.Refusals.{when}
+use Rattle.rules.specs.Judging.{rowRefusal}
+use Rattle.rules.specs.Refusals.{orElse, when}
+use Rattle.rules.specs.declared.decision.Decision.{Decision}
 use Rattle.rules.specs.declared.refusal.Refusal.{Refusal}
-use Rattle.rules.specs.declared.refusal.Refusal.the-variants.{BudgetTooLarge, ShortPlan}
+use Rattle.rules.specs.declared.refusal.Refusal.the-variants.{BudgetTooLarge, ShortPlan, TableFull}
+use Rattle.rules.specs.declared.row.Row.{Row}
+use Rattle.rules.specs.declared.rule.Rule.{Rule}
+use Rattle.account.specs.Changes.{held}
 use Rattle.planner.specs.Planners.{isOpen}
 
 -- accounts whose parts are the same
@@ -115,3 +120,21 @@ module _ {C : Type 0} (m : Meaning C) (a : Account C) where
   spent budget k b l g e count =
       let same : k ≡ budget = omega arith in
       (e ∙ ap (λ (n : ℕ). advance m n a) same, count ∙ ap (λ (n : ℕ). made m n a) same)
+
+  -- a call that a ground refuses
+  pub refuses : (c : Call) (e : Refusal) → refusal a c ≡ Some e → (refused e ≡ answer m a c) × (a ≡ after m a c)
+  refuses c e h = (ap (answerIf m a c) (sym h), ap (afterIf m a c) (sym h))
+
+  module _ (rule : Rule) (row : Row) (ds : List Decision) (rows : List Row) (same : row ≡ rule .row) (book : ds ≡ a .book .decisions) (table : rows ≡ held (a .book) (row .kind)) where
+    grounds : refusal a (add rule) ≡ orElse (rowRefusal ds row) (when (leb 256 (length rows)) TableFull)
+    grounds =
+        ap₂ (λ (xs : List Decision) (r : Row). orElse (rowRefusal xs r) (when (leb 256 (length (held (a .book) (r .kind)))) TableFull)) (sym book) (sym same)
+        ∙ ap (λ (rs : List Row). orElse (rowRefusal ds row) (when (leb 256 (length rs)) TableFull)) (sym table)
+
+    -- no ground holds against a rule
+    pub rule-accepted : rowRefusal ds row ≡ None → length rows < 256 → refusal a (add rule) ≡ None
+    rule-accepted h l = grounds ∙ ap₂ (λ (o : Option Refusal) (b : Bool). orElse o (when b TableFull)) h (lt-leb 256 (length rows) l)
+
+    -- a rule that does not fit the decisions
+    pub rule-refused : (e : Refusal) → rowRefusal ds row ≡ Some e → refusal a (add rule) ≡ Some e
+    rule-refused e h = grounds ∙ ap (λ (o : Option Refusal). orElse o (when (leb 256 (length rows)) TableFull)) h

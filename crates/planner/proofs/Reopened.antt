@@ -15,7 +15,7 @@ use Rattle.rules.specs.Plans.{Book}
 use Rattle.rules.specs.declared.row.Kind.{Kind}
 use Rattle.rules.specs.declared.row.Kind.the-variants.{Forbid, Activate, Price}
 use Rattle.rules.specs.declared.row.Row.{Row}
-use Rattle.planner.specs.Planners.{unlessTold}
+use Rattle.planner.specs.Bests.{unlessTold}
 
 -- an account with another book
 abbrev pub withBook : {C : Type 0} → Account C → Book → Account C

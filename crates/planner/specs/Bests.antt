@@ -1,4 +1,5 @@
 -- The best that a planner holds.
+use mathlib.Core.Bool.{Bool, true, false}
 use Rattle.std.specs.declared.option.Option.{Option}
 use Rattle.std.specs.declared.option.Option.the-variants.{None, Some}
 use Rattle.account.specs.Accounts.{Best as Held}
@@ -13,3 +14,8 @@ bestOf b = record { plan = fromBytes (b .plan); cost = b .cost }
 abbrev pub costHeld : {C : Type 0} → Option (Held C) → Option C
 costHeld None = None
 costHeld (Some b) = Some (b .cost)
+
+-- a best, unless a test tells against it
+abbrev pub unlessTold : {C : Type 0} → Bool → Option (Held C) → Option (Held C)
+unlessTold true best = None
+unlessTold false best = best

@@ -1,9 +1,7 @@
 -- The account that a planner stands for.
 use mathlib.Core.Bool.{Bool, true, false}
 use Rattle.std.specs.Options.{mapped}
-use Rattle.std.specs.declared.option.Option.{Option}
-use Rattle.std.specs.declared.option.Option.the-variants.{None}
-use Rattle.account.specs.Accounts.{Account, Best}
+use Rattle.account.specs.Accounts.{Account}
 use Rattle.account.specs.declared.state.State.{State}
 use Rattle.account.specs.declared.state.State.the-variants.{Open, Settled}
 use Rattle.rules.specs.Conditions.{fromBytes}
@@ -29,8 +27,3 @@ accountOf p =
 abbrev pub isOpen : State → Bool
 isOpen Open = true
 isOpen Settled = false
-
--- a best, unless a test tells against it
-abbrev pub unlessTold : {C : Type 0} → Bool → Option (Best C) → Option (Best C)
-unlessTold true best = None
-unlessTold false best = best

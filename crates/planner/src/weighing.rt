@@ -8,7 +8,7 @@ ghost use Rattle.rules.specs.Conditions.{fromBytes};
 ghost use Rattle.rules.specs.Plans.{cost, isLawful};
 ghost use Rattle.sets.specs.Members.{members};
 ghost use Rattle.planner.specs.Books.{bookOf};
-ghost use Rattle.planner.specs.Bests.{bestOf};
+ghost use Rattle.planner.specs.Bests.{bestOf, unlessTold};
 use crate::best::Best;
 use crate::book::Book;
 use measure::Measure;
@@ -99,4 +99,11 @@ fn judges_lawful(book: &Book, plan: &[u8; 64]) -> bool
     ensures { λ r. ⌜ r ≡ isLawful (bookOf (now (book .entry))) (fromBytes (now (plan .entry))) ⌝ }
 {
     is_lawful(book.decisions(), book.rows(Kind::Forbid), book.rows(Kind::Activate), plan)
+}
+
+/// The best, unless a forbid rule is met.
+pub fn best_unless<M: Measure>(met: bool, held: Option<Best<M>>) -> Option<Best<M>>
+    ensures { λ r. ⌜ mapped bestOf r ≡ unlessTold met (mapped bestOf held) ⌝ }
+{
+    if met { None } else { held }
 }

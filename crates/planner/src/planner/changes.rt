@@ -6,9 +6,11 @@ ghost use lib.ListN.{length};
 ghost use Rattle.account.specs.Calls.{add, after, answer, withdraw as withdrawCall};
 ghost use Rattle.account.specs.Changes.{added, bestMeets, held, ifLawful, reopened, repriced, withdrawn};
 ghost use Rattle.planner.specs.Answers.{saysDone};
-ghost use Rattle.planner.specs.Planners.{accountOf, unlessTold};
+ghost use Rattle.planner.specs.Bests.{unlessTold};
+ghost use Rattle.planner.specs.Planners.{accountOf};
 ghost use Rattle.tables.specs.Shapes.{shaped};
 use crate::planner::Planner;
+use crate::weighing::best_unless;
 use crate::weighing::repriced_best;
 use crate::weighing::still_lawful;
 use account::State;
@@ -103,9 +105,8 @@ impl<M: Measure> Planner<M> {
     fn reopen_forbidding(&mut self, met: bool)
         ensures { λ _. ⌜ accountOf (now (self .exit)) ≡ reopened (accountOf (now (self .entry))) (accountOf (now (self .entry)) .book) (unlessTold met (accountOf (now (self .entry)) .best)) (λ e. not met || not (e .rests)) ⌝ }
     {
-        if met {
-            self.best = None;
-        }
+        let held = self.best;
+        self.best = best_unless(met, held);
         self.reopen(!met);
     }
 
