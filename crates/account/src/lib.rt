@@ -3,7 +3,6 @@
 mod state;
 
 pub use state::State;
-
 ghost use Rattle.account.specs.Law.{Planning};
 use measure::Measure;
 
