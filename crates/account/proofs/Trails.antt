@@ -21,6 +21,10 @@ use Rattle.account.specs.Steps.{Retreat, follow, retreat}
 use Rattle.account.proofs.Formed.{Distinct}
 use Rattle.account.proofs.Meeting.{met-same}
 
+-- a set of decisions on the trail
+abbrev pub Within : List Entry → Set → Type 0
+Within es s = (x : ℕ) → s x ≡ true → 0 < chosen es x
+
 pub chosen-here : (e : Entry) (es : List Entry) (x : ℕ) → x ≡ e .decision → chosen (e ∷ es) x ≡ e .value
 chosen-here e es x h = cond-true (eqb x (e .decision)) (e .value) (chosen es x) (eq-eqb x (e .decision) h)
 
