@@ -1,7 +1,7 @@
 -- At most (V + 2) ^ (N + 1) steps between two changes of rules, for N decisions of V values in all.
 use mathlib.Core.Bool.{Bool, true, false, _&&_}
 use mathlib.Core.List.{List, [], _∷_}
-use mathlib.Core.Path.{_≡_, refl, _∙_, ap}
+use mathlib.Core.Path.{_≡_, refl, ap}
 use Prim.Native.Nat.{ℕ, zero, suc, _+_, _^_, _≤_, _<_}
 use native.Mathlib.Nat.{add-assoc}
 use native.Mathlib.Omega.{arith}
@@ -12,16 +12,12 @@ use Rattle.std.specs.declared.option.Option.the-variants.{None, Some}
 use Rattle.std.specs.shelf.Lists.{sumBy}
 use Rattle.measure.specs.Meaning.{Meaning}
 use Rattle.measure.proofs.Laws.{Laws}
-use Rattle.rules.specs.Plans.{Book, Set, sizeAt, cost}
+use Rattle.rules.specs.Plans.{Set, sizeAt, cost}
 use Rattle.rules.specs.declared.decision.Decision.{Decision}
 use Rattle.rules.specs.declared.refusal.Refusal.{Refusal}
-use Rattle.rules.specs.declared.row.Row.{Row}
-use Rattle.rules.specs.declared.row.Kind.{Kind}
-use Rattle.rules.specs.declared.row.Kind.the-variants.{Forbid, Activate, Price}
-use Rattle.account.specs.Accounts.{Account, Exclusion, Best, fresh, chosen, either}
+use Rattle.account.specs.Accounts.{Account, Exclusion, Best, fresh, chosen}
 use Rattle.account.specs.Calls.{Call, add, withdraw, rank, run, best, exclusion, unexcluded, refusal, made, answer, answerIf, accepted, after, afterIf, leaves, isChange, stepsOf, tally, stepsSince, report}
-use Rattle.account.specs.Changes.{added, withdrawn}
-use Rattle.account.specs.Steps.{Retreat, retreat, blamed, blame, withExclusions, enter, extend, conclude, champion, priceReason, reasons, anyRests, support, tested, smallestFree, pick, waits, step, stepAt, advance, advanceIn, oneIfOpen}
+use Rattle.account.specs.Steps.{Retreat, retreat, blamed, blame, withExclusions, enter, extend, conclude, champion, priceReason, anyRests, support, tested, smallestFree, pick, waits, step, stepAt, advance, advanceIn, oneIfOpen}
 use Rattle.account.specs.declared.state.State.{State}
 use Rattle.account.specs.declared.state.State.the-variants.{Open, Settled}
 use Rattle.account.proofs.Formed.{Formed}

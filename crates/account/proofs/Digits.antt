@@ -1,7 +1,6 @@
 -- The number that every step raises: a digit for each front of the trail, from the empty one on, that counts the exclusions whose reasons lie within it.
 use mathlib.Core.Bool.{Bool, true, false, not, _||_}
 use mathlib.Core.List.{List, [], _∷_, _++_}
-use mathlib.Core.Logic.{⊎-elim}
 use mathlib.Core.Path.{_≡_, refl, sym, _∙_, ap}
 use Prim.Native.Nat.{ℕ, suc, _+_, _*_, _-_, _^_, _≤_, _<_}
 use native.Mathlib.Nat.{pow-zero, pow-suc, pow-succ', mul-le-mul-right, mul-lt-mul-of-pos-right, one-le-pow, mul-assoc, suc-mul}
@@ -14,10 +13,10 @@ use Rattle.std.specs.declared.option.Option.{Option}
 use Rattle.std.specs.declared.option.Option.the-variants.{None, Some}
 use Rattle.std.specs.Orderings.{Decides}
 use Rattle.std.specs.shelf.Lists.{sumBy}
-use Rattle.std.proofs.shelf.Lists.{getD-past, append-nil}
-use Rattle.std.proofs.shelf.Tests.{cases-lt, false≢true, cond-both, eqb-true, eq-eqb, ltb-true, lt-ltb, cond-true}
+use Rattle.std.proofs.shelf.Lists.{append-nil}
+use Rattle.std.proofs.shelf.Tests.{false≢true, cond-both, ltb-true, lt-ltb}
 use Rattle.std.proofs.shelf.Ways.{decides-below-and}
-use Rattle.rules.specs.Plans.{Set, sizeAt, allBelow, absent}
+use Rattle.rules.specs.Plans.{Set, sizeAt, allBelow}
 use Rattle.rules.specs.declared.decision.Decision.{Decision}
 use Rattle.account.specs.Accounts.{Entry, Exclusion, chosen}
 use Rattle.account.proofs.Formed.{Distinct}

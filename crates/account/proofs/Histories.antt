@@ -1,8 +1,8 @@
 -- Every list of calls leaves a sound account over the same decisions.
-use mathlib.Core.Bool.{Bool, true, false, not, _&&_, _||_}
+use mathlib.Core.Bool.{Bool, true, not, _&&_, _||_}
 use mathlib.Core.List.{List, [], _∷_}
 use mathlib.Core.Logic.{⊎-elim}
-use mathlib.Core.Path.{_≡_, refl, sym, _∙_, ap}
+use mathlib.Core.Path.{_≡_, refl, _∙_, ap}
 use Prim.Native.Nat.{ℕ, zero, suc, _≤_, _<_}
 use native.Mathlib.Omega.{arith}
 use lib.Dec.{ltb}
@@ -17,7 +17,6 @@ use Rattle.rules.specs.Compose.{isActivate}
 use Rattle.rules.specs.Conditions.{condition}
 use Rattle.rules.specs.Judging.{rowRefusal, knownDecisions}
 use Rattle.rules.specs.Plans.{Book, Set, sizeAt, cost}
-use Rattle.rules.specs.Refusals.{when, orElse}
 use Rattle.rules.specs.declared.decision.Decision.{Decision}
 use Rattle.rules.specs.declared.refusal.Refusal.{Refusal}
 use Rattle.rules.specs.declared.row.Kind.{Kind}

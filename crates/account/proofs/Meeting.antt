@@ -5,9 +5,9 @@ use mathlib.Core.Logic.{⊎-elim}
 use mathlib.Core.Path.{_≡_, refl, _∙_}
 use Prim.Native.Nat.{ℕ, _≤_, _<_}
 use native.Mathlib.Omega.{arith}
-use lib.Dec.{eqb, ltb}
+use lib.Dec.{eqb}
 use lib.ListN.{length}
-use Rattle.std.proofs.shelf.Tests.{and-parts, and-from, or-cases, or-left, or-right, eqb-true, eq-eqb, ltb-true, both-ways, cases-bool}
+use Rattle.std.proofs.shelf.Tests.{or-left, eq-eqb, cases-bool}
 use Rattle.rules.specs.Conditions.{Plan, has, meets, names, condition, met}
 use Rattle.rules.specs.declared.literal.Literal.{Literal}
 use Rattle.rules.specs.declared.row.Row.{Row}

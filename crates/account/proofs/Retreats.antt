@@ -10,7 +10,7 @@ use lib.ListN.{length}
 use Rattle.std.specs.declared.option.Option.{Option}
 use Rattle.std.specs.declared.option.Option.the-variants.{None, Some}
 use Rattle.std.specs.shelf.Lists.{All}
-use Rattle.std.proofs.shelf.Tests.{cases-bool, cases-lt, both-ways, cond-both, eqb-true, eq-eqb, ne-eqb, cond-true, cond-false, and-parts, and-from, not-true, or-from}
+use Rattle.std.proofs.shelf.Tests.{cases-bool, cases-lt, both-ways, cond-both, eqb-true, eq-eqb, cond-true, cond-false, and-parts, and-from, not-true, or-from}
 use Rattle.rules.specs.Plans.{Set, sizeAt}
 use Rattle.rules.specs.declared.decision.Decision.{Decision}
 use Rattle.account.specs.Accounts.{Entry, chosen, except, hasAny}

@@ -1,17 +1,17 @@
 -- Two books with the same rules, each equally often, have the same lawful plans at the same costs, and two settled accounts over them report one cost.
 use mathlib.Core.Bool.{Bool, true, false, cond, _&&_}
 use mathlib.Core.List.{List, [], _∷_}
-use mathlib.Core.Logic.{⊎-elim, _↔_}
+use mathlib.Core.Logic.{⊎-elim}
 use mathlib.Core.Path.{_≡_, refl, sym, _∙_, ap, subst}
 use Prim.Native.Nat.{ℕ, _+_, _≤_, _<_}
 use native.Mathlib.Omega.{arith}
-use lib.Dec.{eqb, ltb}
+use lib.Dec.{eqb}
 use lib.ListN.{length}
 use Rattle.std.specs.declared.option.Option.{Option}
 use Rattle.std.specs.declared.option.Option.the-variants.{None, Some}
 use Rattle.std.specs.shelf.Lists.{All, countBy}
 use Rattle.std.proofs.shelf.Sums.{sumBy-cons}
-use Rattle.std.proofs.shelf.Tests.{cases-bool, false≢true, cond-true, cond-false, eqb-true, eq-eqb, ltb-false, and-parts, and-from}
+use Rattle.std.proofs.shelf.Tests.{cases-bool, false≢true, cond-true, cond-false, eqb-true, eq-eqb, and-parts, and-from}
 use Rattle.measure.specs.Meaning.{Meaning}
 use Rattle.measure.specs.declared.price.Price.{Price}
 use Rattle.measure.proofs.Laws.{Laws}
@@ -19,16 +19,11 @@ use Rattle.rules.specs.Conditions.{Plan, meets, met, condition}
 use Rattle.rules.specs.Plans.{Book, Set, Closed, Lawful, cost, within, sizeAt, onAt}
 use Rattle.rules.specs.declared.decision.Decision.{Decision}
 use Rattle.rules.specs.declared.literal.Literal.{Literal}
-use Rattle.rules.specs.Refusals.{when}
-use Rattle.rules.specs.declared.refusal.Refusal.{Refusal}
-use Rattle.rules.specs.declared.refusal.Refusal.the-variants.{ShortPlan}
 use Rattle.rules.specs.declared.row.Kind.the-variants.{Forbid, Activate, Price as Priced}
 use Rattle.rules.specs.declared.row.Row.{Row}
 use Rattle.account.specs.Accounts.{Account, Best}
-use Rattle.account.specs.Calls.{reported, best, answer, answerIf, refusal, report, written}
-use Rattle.account.specs.Changes.{held}
+use Rattle.account.specs.Calls.{best, report}
 use Rattle.account.specs.Law.{samePairs, sameRule, SameRules, OneCost}
-use Rattle.account.specs.declared.state.State.{State}
 use Rattle.account.specs.declared.state.State.the-variants.{Settled}
 use Rattle.account.proofs.Reports.{Told, told, least, none}
 use Rattle.account.proofs.Sound.{Sound}
