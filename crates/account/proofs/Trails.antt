@@ -38,13 +38,6 @@ size-known ds d h = ⊎-elim (λ l. l) (λ l. absurd (past l)) (cases-lt d (leng
     past : length ds ≤ d → ⊥
     past l = omega (arith, ap (λ (x : Decision). x .size) (getD-past ds d absent l))
 
--- a decision that is marked on is one of those that there are
-pub on-known : (ds : List Decision) (d : ℕ) → onAt ds d ≡ true → d < length ds
-on-known ds d h = ⊎-elim (λ l. l) (λ l. absurd (past l)) (cases-lt d (length ds))
-  where
-    past : length ds ≤ d → ⊥
-    past l = both-ways (onAt ds d) (ap (λ (x : Decision). x .on) (getD-past ds d absent l)) h
-
 -- the values of a trail are in range
 pub chosen-range : (ds : List Decision) (es : List Entry) → Distinct ds es → (x : ℕ) → chosen es x ≤ sizeAt ds x
 chosen-range ds [] dis x = omega arith

@@ -4,8 +4,8 @@ ghost use Rattle.account.specs.Worked.{AllShown};
 
 mod state;
 
-pub use state::State;
 use measure::Measure;
+pub use state::State;
 
 /// The planning law holds for every measure that keeps the laws.
 pub fn planning_law<M: Measure>() -> bool

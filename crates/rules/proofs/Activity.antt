@@ -181,7 +181,8 @@ active-closed b p known =
 pub active-complete : (b : Book) (p : Plan) → Targets (length (b .decisions)) (b .activates) → (d : ℕ) → Active b p d → active b p d ≡ true
 active-complete b p known d h = h (active b p) (active-closed b p known)
 
-on-known : (b : Book) (d : ℕ) → onAt (b .decisions) d ≡ true → d < length (b .decisions)
+-- a decision that is marked on is one of those that there are
+pub on-known : (b : Book) (d : ℕ) → onAt (b .decisions) d ≡ true → d < length (b .decisions)
 on-known b d h =
     ⊎-elim (λ (l : d < length (b .decisions)). l)
     (λ (g : length (b .decisions) ≤ d). absurd (false≢true (ap (λ (x : Decision). x .on) (sym (List·getD-eq-default (b .decisions) absent g)) ∙ h)))
