@@ -13,12 +13,13 @@ use Rattle.std.proofs.shelf.Tests.{cond-true, cond-both, cases-bool, cases-eq, 
 use Rattle.rules.specs.Conditions.{Plan, met}
 use Rattle.rules.specs.Plans.{Book, Set, Closed, Active, Lawful, within, enables, onAt}
 use Rattle.rules.specs.declared.row.Row.{Row}
+use Rattle.rules.proofs.Activity.{on-known}
 use Rattle.account.specs.Accounts.{Entry, chosen}
 use Rattle.account.specs.Steps.{waits, support}
 use Rattle.account.proofs.Finds.{waits-why, waits-not, enables-has, enabled}
 use Rattle.account.proofs.Formed.{Distinct}
 use Rattle.account.proofs.Meeting.{met-same, met-chosen}
-use Rattle.account.proofs.Trails.{Ground, Grounded, chosen-other, chosen-range, on-known}
+use Rattle.account.proofs.Trails.{Ground, Grounded, chosen-other, chosen-range}
 
 -- an activate rule that a plan meets, all of whose decisions a closed set has, puts its target into that set
 pub closed-target : (b : Book) (p : Plan) (s : Set) → Closed b p s → (r : Row) → Has (b .activates) r → (q : Plan) → met q r ≡ true → ((x : ℕ) → 0 < q x → (s x ≡ true) × (p x ≡ q x)) → s (r .target) ≡ true
@@ -91,6 +92,6 @@ complete-lawful b es dis gr targets none rest =
     closed : Closed b (chosen es) (λ x. ltb 0 (chosen es x))
     closed =
         record {
-          marked = λ d on. has-value d (on-known (b .decisions) d on) (or-left (onAt (b .decisions) d) (enables (b .activates) (chosen es) d) on);
+          marked = λ d on. has-value d (on-known b d on) (or-left (onAt (b .decisions) d) (enables (b .activates) (chosen es) d) on);
           enabled = all-weaker (Has (b .activates)) (λ w. met (within (λ y. ltb 0 (chosen es y)) (chosen es)) w ≡ true → ltb 0 (chosen es (w .target)) ≡ true) one (b .activates) (all-has-itself (b .activates));
         }

@@ -19,6 +19,7 @@ use Rattle.rules.specs.Plans.{Book, Set, Lawful, cost, isLawful}
 use Rattle.rules.specs.declared.row.Kind.{Kind}
 use Rattle.rules.specs.declared.row.Kind.the-variants.{Forbid, Activate, Price}
 use Rattle.rules.specs.declared.row.Row.{Row}
+use Rattle.rules.proofs.Lawfulness.{lawful-from-test}
 use Rattle.account.specs.Accounts.{Account, Exclusion, Best, chosen, emptyBelow}
 use Rattle.account.specs.Changes.{keepIf, reopened, bestMeets, unlessMet, repriced, ifLawful, added, withdrawn}
 use Rattle.account.specs.Law.{RulesOut}
@@ -111,11 +112,6 @@ module _ {C : Type 0} (m : Meaning C) (a : Account C) (s : Sound m a) (fs ts ps 
         settled = λ e. absurd (open-settled e);
       }
 
--- what the test of lawfulness gives, where the targets are known and the plan is idle behind the last decision
-abbrev pub LawfulFromTest : Type 0
-LawfulFromTest =
-    (b : Book) (p : Plan) → All (λ r. r .target < length (b .decisions)) (b .activates) → ((d : ℕ) → length (b .decisions) ≤ d → p d ≡ 0) → isLawful b p ≡ true → Lawful b p
-
 module _ {C : Type 0} where
   unlessMet-some : (r : Row) (o : Option (Best C)) (b : Best C) → unlessMet r o ≡ Some b → (o ≡ Some b) × (met (b .plan) r ≡ false)
   unlessMet-some r None b h = absurd (none-some b h)
@@ -147,7 +143,7 @@ unmet-if-rests true true h e = sym h
 unmet-if-rests true false h e = absurd (both-ways false refl e)
 unmet-if-rests false y h e = refl
 
-module _ {C : Type 0} (m : Meaning C) (laws : Laws m) (from-test : LawfulFromTest) (a : Account C) (s : Sound m a) where
+module _ {C : Type 0} (m : Meaning C) (laws : Laws m) (a : Account C) (s : Sound m a) where
   -- no exclusion is kept
   gone : {P : Type 0} → false ≡ true → P
   gone h = absurd (both-ways false refl h)
@@ -163,7 +159,7 @@ module _ {C : Type 0} (m : Meaning C) (laws : Laws m) (from-test : LawfulFromTes
         good b h =
             let k = ifLawful-some (ruled (a .book) (a .book .forbids) ts (a .book .prices)) (a .best) b h in
             let old = s .best-good b (k .0) in
-            record { lawful = from-test (ruled (a .book) (a .book .forbids) ts (a .book .prices)) (b .plan) targets (lawful-idle (a .book) (b .plan) (old .lawful)) (k .1); costs = old .costs }
+            record { lawful = lawful-from-test (ruled (a .book) (a .book .forbids) ts (a .book .prices)) (b .plan) targets (lawful-idle (a .book) (b .plan) (old .lawful)) (k .1); costs = old .costs }
 
   -- the best at another price
   repriced-good : (ps : List Row) (b : Best C) → repriced m ps (a .best) ≡ Some b → Good m (ruled (a .book) (a .book .forbids) (a .book .activates) ps) b

@@ -1,7 +1,6 @@
 -- The number that every step raises: a digit for each front of the trail, from the empty one on, that counts the exclusions whose reasons lie within it.
 use mathlib.Core.Bool.{Bool, true, false, not, _||_}
 use mathlib.Core.List.{List, [], _∷_, _++_}
-use mathlib.Core.Logic.{⊎-elim}
 use mathlib.Core.Path.{_≡_, refl, sym, _∙_, ap}
 use Prim.Native.Nat.{ℕ, suc, _+_, _*_, _-_, _^_, _≤_, _<_}
 use native.Mathlib.Nat.{pow-zero, pow-suc, pow-succ', mul-le-mul-right, mul-lt-mul-of-pos-right, one-le-pow, mul-assoc, suc-mul}
@@ -14,18 +13,15 @@ use Rattle.std.specs.declared.option.Option.{Option}
 use Rattle.std.specs.declared.option.Option.the-variants.{None, Some}
 use Rattle.std.specs.Orderings.{Decides}
 use Rattle.std.specs.shelf.Lists.{sumBy}
-use Rattle.std.proofs.shelf.Lists.{getD-past, append-nil}
-use Rattle.std.proofs.shelf.Tests.{cases-lt, false≢true, cond-both, eqb-true, eq-eqb, ltb-true, lt-ltb, cond-true}
+use Rattle.std.proofs.shelf.Lists.{append-nil}
+use Rattle.std.proofs.shelf.Tests.{false≢true, cond-both, ltb-true, lt-ltb}
 use Rattle.std.proofs.shelf.Ways.{decides-below-and}
-use Rattle.rules.specs.Plans.{Set, sizeAt, allBelow, absent}
+use Rattle.rules.specs.Plans.{Set, sizeAt, allBelow}
 use Rattle.rules.specs.declared.decision.Decision.{Decision}
 use Rattle.account.specs.Accounts.{Entry, Exclusion, chosen}
 use Rattle.account.proofs.Formed.{Distinct}
+use Rattle.account.proofs.Trails.{chosen-here, size-known}
 use Rattle.account.proofs.Cells.{below, below-le, below-rises, cells, cells-le, cells-less, cells-rises}
-
--- a set lies within a trail
-abbrev pub Within : List Entry → Set → Type 0
-Within es s = (x : ℕ) → s x ≡ true → 0 < chosen es x
 
 -- whether a decision of a set is on a trail
 abbrev placed : Set → List Entry → ℕ → Bool
@@ -79,35 +75,18 @@ height ds ex es = digits ds ex es * base ds ^ (length ds - length es)
 powers : (b x j k n : ℕ) → j + k ≡ n → x * b ^ j * b ^ k ≡ x * b ^ n
 powers b x j k n e = mul-assoc x (b ^ j) (b ^ k) ∙ ap (λ (y : ℕ). x * y) (sym (pow-add b j k) ∙ ap (λ (y : ℕ). b ^ y) e)
 
--- what an entry adds to a trail
-pub chosen-here : (e : Entry) (es : List Entry) → chosen (e ∷ es) (e .decision) ≡ e .value
-chosen-here e es = cond-true (eqb (e .decision) (e .decision)) (e .value) (chosen es (e .decision)) (eq-eqb (e .decision) (e .decision) refl)
-
+-- an entry leaves every decision of a trail on it
 pub chosen-more : (e : Entry) (es : List Entry) → 1 ≤ e .value → (x : ℕ) → 0 < chosen es x → 0 < chosen (e ∷ es) x
 chosen-more e es h x k = cond-both (eqb x (e .decision)) (e .value) (chosen es x) (λ y. 0 < y) (λ _. h) (λ _. k)
 
 module _ (ds : List Decision) where
-  -- a decision on the trail is one of the list
-  pub sized : (d : ℕ) → 0 < sizeAt ds d → d < length ds
-  sized d h =
-      ⊎-elim (λ (k : d < length ds). k)
-      (λ (k : length ds ≤ d). let z : sizeAt ds d ≡ 0 = ap (λ (y : Decision). y .size) (getD-past ds d absent k) in omega arith)
-      (cases-lt d (length ds))
-
-  pub on-trail : (es : List Entry) → Distinct ds es → (x : ℕ) → 0 < chosen es x → (chosen es x ≤ sizeAt ds x) × (x < length ds)
-  on-trail [] h x = λ k. absurd (omega arith)
-  on-trail (e ∷ es) h x =
-      cond-both (eqb x (e .decision)) (e .value) (chosen es x) (λ y. 0 < y → (y ≤ sizeAt ds x) × (x < length ds))
-      (λ t k. let q : x ≡ e .decision = eqb-true x (e .decision) t in let f : e .value ≤ sizeAt ds x = rw q (h .2) in (f, sized x (omega arith)))
-      (λ _ k. on-trail es (h .3) x k)
-
   trail-le-chosen : (es : List Entry) → Distinct ds es → length es ≤ below (λ x. ltb 0 (chosen es x)) (length ds)
   trail-le-chosen [] h = omega arith
   trail-le-chosen (e ∷ es) h =
       let rise : below (λ x. ltb 0 (chosen es x)) (length ds) < below (λ x. ltb 0 (chosen (e ∷ es) x)) (length ds) =
       below-rises (λ x. ltb 0 (chosen es x)) (λ x. ltb 0 (chosen (e ∷ es) x))
       (λ x t. lt-ltb 0 (chosen (e ∷ es) x) (chosen-more e es (h .1) x (ltb-true 0 (chosen es x) t)))
-      (e .decision) (rw (h .0) refl) (rw (chosen-here e es) (lt-ltb 0 (e .value) (h .1))) (length ds) (sized (e .decision) (omega arith)) in
+      (e .decision) (rw (h .0) refl) (rw (chosen-here e es (e .decision) refl) (lt-ltb 0 (e .value) (h .1))) (length ds) (size-known ds (e .decision) (omega arith)) in
       omega (arith, trail-le-chosen es (h .3))
 
   pub trail-le : (es : List Entry) → Distinct ds es → length es ≤ length ds

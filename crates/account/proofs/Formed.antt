@@ -3,9 +3,8 @@ use mathlib.Core.Bool.{true}
 use mathlib.Core.List.{List, [], _∷_}
 use mathlib.Core.Path.{_≡_}
 use Prim.Native.Nat.{ℕ, _≤_, _<_}
-use Rattle.std.specs.declared.option.Option.{Option}
 use Rattle.std.specs.declared.option.Option.the-variants.{None, Some}
-use Rattle.rules.specs.Plans.{Book, sizeAt}
+use Rattle.rules.specs.Plans.{sizeAt}
 use Rattle.rules.specs.declared.decision.Decision.{Decision}
 use Rattle.account.specs.Accounts.{Account, Entry, Exclusion, chosen}
 

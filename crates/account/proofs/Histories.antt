@@ -1,8 +1,8 @@
 -- Every list of calls leaves a sound account over the same decisions.
-use mathlib.Core.Bool.{Bool, true, false, not, _&&_, _||_}
+use mathlib.Core.Bool.{Bool, true, not, _&&_, _||_}
 use mathlib.Core.List.{List, [], _∷_}
 use mathlib.Core.Logic.{⊎-elim}
-use mathlib.Core.Path.{_≡_, refl, sym, _∙_, ap}
+use mathlib.Core.Path.{_≡_, refl, _∙_, ap}
 use Prim.Native.Nat.{ℕ, zero, suc, _≤_, _<_}
 use native.Mathlib.Omega.{arith}
 use lib.Dec.{ltb}
@@ -17,31 +17,23 @@ use Rattle.rules.specs.Compose.{isActivate}
 use Rattle.rules.specs.Conditions.{condition}
 use Rattle.rules.specs.Judging.{rowRefusal, knownDecisions}
 use Rattle.rules.specs.Plans.{Book, Set, sizeAt, cost}
-use Rattle.rules.specs.Refusals.{when, orElse}
 use Rattle.rules.specs.declared.decision.Decision.{Decision}
 use Rattle.rules.specs.declared.refusal.Refusal.{Refusal}
 use Rattle.rules.specs.declared.row.Kind.{Kind}
 use Rattle.rules.specs.declared.row.Kind.the-variants.{Forbid, Activate, Price}
 use Rattle.rules.specs.declared.row.Row.{Row}
 use Rattle.rules.specs.declared.rule.Rule.{Rule}
+use Rattle.rules.proofs.Grounds.{when-none, orElse-none}
 use Rattle.account.specs.Accounts.{Account, chosen, either, fresh}
 use Rattle.account.specs.Calls.{Call, add, withdraw, rank, run, best, exclusion, unexcluded, refusal, leaves, afterIf, after, history}
 use Rattle.account.specs.Changes.{added, withdrawn}
 use Rattle.account.specs.Steps.{waits, pick, support, priceReason, tested, smallestFree, reasons, anyRests, Retreat, retreat, blamed, blame, withExclusions, enter, extend, champion, conclude, stepAt, step, advanceIn, advance}
 use Rattle.account.specs.declared.state.State.{State}
 use Rattle.account.specs.declared.state.State.the-variants.{Open, Settled}
-use Rattle.account.proofs.Changed.{LawfulFromTest, open-settled, added-sound, withdrawn-sound}
+use Rattle.account.proofs.Changed.{open-settled, added-sound, withdrawn-sound}
 use Rattle.account.proofs.Sound.{Sound}
 use Rattle.account.proofs.Steady.{advance-sound}
 use Rattle.account.proofs.Tested.{none-some}
-
-when-none : {X : Type 0} (t : Bool) (x : X) → when t x ≡ None → t ≡ false
-when-none true x h = absurd (none-some x (sym h))
-when-none false x h = refl
-
-orElse-none : {X : Type 0} (o p : Option X) → orElse o p ≡ None → (o ≡ None) × (p ≡ None)
-orElse-none None p h = (refl, h)
-orElse-none (Some x) p h = absurd (none-some x (sym h))
 
 -- the target of an activate rule that is not refused is a decision
 pub target-known : (ds : List Decision) (r : Row) → rowRefusal ds r ≡ None → r .kind ≡ Activate → r .target < length ds
@@ -140,10 +132,10 @@ module _ {C : Type 0} (m : Meaning C) where
         settled = λ e. absurd (open-settled e);
       }
 
-  module _ (laws : Laws m) (from-test : LawfulFromTest) where
+  module _ (laws : Laws m) where
     leaves-sound : (a : Account C) (c : Call) → Sound m a → refusal a c ≡ None → Sound m (leaves m a c)
-    leaves-sound a (add r) s h = added-sound m laws from-test a s (r .row .kind) (r .row) (rule-some r) (target-known (a .book .decisions) (r .row) (orElse-none _ _ h .0))
-    leaves-sound a (withdraw k n) s h = withdrawn-sound m laws from-test a s k n
+    leaves-sound a (add r) s h = added-sound m laws a s (r .row .kind) (r .row) (rule-some r) (target-known (a .book .decisions) (r .row) (orElse-none _ _ h .0))
+    leaves-sound a (withdraw k n) s h = withdrawn-sound m laws a s k n
     leaves-sound a (rank d n) s h =
         record {
           formed = record { distinct = s .formed .distinct; in-range = s .formed .in-range; reasoned = s .formed .reasoned; free = s .formed .free };

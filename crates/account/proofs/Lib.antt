@@ -17,5 +17,4 @@ pub mod Steady
 pub mod Changed
 pub mod Histories
 pub mod Reports
-pub mod Planned
 pub mod Planning

@@ -2,39 +2,24 @@
 use mathlib.Core.Bool.{true, false}
 use mathlib.Core.List.{List, [], _∷_}
 use mathlib.Core.Logic.{⊎-elim}
-use mathlib.Core.Path.{_≡_, refl}
+use mathlib.Core.Path.{_≡_, refl, _∙_}
 use Prim.Native.Nat.{ℕ, _≤_, _<_}
 use native.Mathlib.Omega.{arith}
-use lib.Dec.{eqb, ltb}
+use lib.Dec.{eqb}
 use lib.ListN.{length}
-use Rattle.std.proofs.shelf.Tests.{and-parts, and-from, or-cases, or-left, or-right, eqb-true, eq-eqb, ltb-true, both-ways, cases-bool}
+use Rattle.std.proofs.shelf.Tests.{or-left, eq-eqb, cases-bool}
 use Rattle.rules.specs.Conditions.{Plan, has, meets, names, condition, met}
 use Rattle.rules.specs.declared.literal.Literal.{Literal}
 use Rattle.rules.specs.declared.row.Row.{Row}
-
-meets-same : (ls : List Literal) (p q : Plan) → ((x : ℕ) → names ls x ≡ true → q x ≡ p x) → meets p ls ≡ true → meets q ls ≡ true
-meets-same [] p q same h = refl
-meets-same (l ∷ ls) p q same h =
-    let parts = and-parts (has p l) (meets p ls) h in
-    let here : q (l .decision) ≡ p (l .decision) = same (l .decision) (or-left (eqb (l .decision) (l .decision)) (names ls (l .decision)) (eq-eqb (l .decision) (l .decision) refl)) in
-    and-from (has q l) (meets q ls) (rw here (parts .0)) (meets-same ls p q (λ x n. same x (or-right (eqb x (l .decision)) (names ls x) n)) (parts .1))
-
-meets-chosen : (ls : List Literal) (p : Plan) → meets p ls ≡ true → (x : ℕ) → names ls x ≡ true → 0 < p x
-meets-chosen [] p h x n = absurd (both-ways false refl n)
-meets-chosen (l ∷ ls) p h x n = ⊎-elim here (λ k. meets-chosen ls p (and-parts (has p l) (meets p ls) h .1) x k) (or-cases (eqb x (l .decision)) (names ls x) n)
-  where
-    here : eqb x (l .decision) ≡ true → 0 < p x
-    here e =
-        let pair = and-parts (ltb 0 (l .value)) (eqb (p (l .decision)) (l .value)) (and-parts (has p l) (meets p ls) h .0) in
-        rw (eqb-true x (l .decision) e) (omega (arith, ltb-true 0 (l .value) (pair .0), eqb-true (p (l .decision)) (l .value) (pair .1)))
+use Rattle.rules.proofs.Conditions.{meets-same, named-chosen}
 
 -- a plan that has the values of a plan for the decisions that a row names meets it too
 pub met-same : (r : Row) (p q : Plan) → ((x : ℕ) → names (condition r) x ≡ true → q x ≡ p x) → met p r ≡ true → met q r ≡ true
-met-same r p q same h = meets-same (condition r) p q same h
+met-same r p q same h = meets-same q p (condition r) same ∙ h
 
 -- a met row names only chosen decisions
 pub met-chosen : (r : Row) (p : Plan) → met p r ≡ true → (x : ℕ) → names (condition r) x ≡ true → 0 < p x
-met-chosen r p h x n = meets-chosen (condition r) p h x n
+met-chosen r p h x n = named-chosen p (condition r) x h n
 
 -- a plan that has no more choices than another meets no more
 pub met-fewer : (r : Row) (p q : Plan) → ((x : ℕ) → 0 < p x → q x ≡ p x) → met p r ≡ true → met q r ≡ true

@@ -10,13 +10,14 @@ use lib.ListN.{length}
 use Rattle.std.specs.declared.option.Option.{Option}
 use Rattle.std.specs.declared.option.Option.the-variants.{None, Some}
 use Rattle.std.specs.shelf.Lists.{All}
-use Rattle.std.proofs.shelf.Tests.{cases-bool, cases-lt, both-ways, cond-both, eqb-true, eq-eqb, ne-eqb, cond-true, cond-false, and-parts, and-from, not-true, or-from}
+use Rattle.std.proofs.shelf.Tests.{cases-bool, cases-lt, both-ways, cond-both, eqb-true, eq-eqb, cond-true, cond-false, and-parts, and-from, not-true, or-from}
 use Rattle.rules.specs.Plans.{Set, sizeAt}
 use Rattle.rules.specs.declared.decision.Decision.{Decision}
 use Rattle.account.specs.Accounts.{Entry, chosen, except, hasAny}
 use Rattle.account.specs.Steps.{Retreat, retreat, follow, relearn, unlessLeft}
 use Rattle.account.proofs.Formed.{Distinct}
-use Rattle.account.proofs.Digits.{Within, Excluded, Stays, lies, lies-decides, height, chosen-here, chosen-more, sized, trail-le, inside-rises, digits-rises, height-rises}
+use Rattle.account.proofs.Trails.{Within, chosen-here, chosen-other, size-known}
+use Rattle.account.proofs.Digits.{Excluded, Stays, lies, lies-decides, height, chosen-more, trail-le, inside-rises, digits-rises, height-rises}
 
 module _ (ds : List Decision) (s : Set) where
   -- the trail parts at the latest blamed entry: older entries stay, and of the newer ones some
@@ -55,14 +56,13 @@ module _ (ds : List Decision) (s : Set) where
           culprit-blamed = t;
           latest = λ x _. refl;
           below = chosen-more e es (h .1);
-          gone = ((sized ds (e .decision) (omega arith), h .0), tt);
+          gone = ((size-known ds (e .decision) (omega arith), h .0), tt);
         }
 
     module _ (t : s (e .decision) ≡ false) (r : Retreat) (p : Parted es r) where
       later : (x : ℕ) → s x ≡ true → chosen (e ∷ es) x ≡ chosen (r .culprit ∷ p .older) x
       later x k =
-          cond-false (eqb x (e .decision)) (e .value) (chosen es x) (ne-eqb x (e .decision) (λ q. both-ways (s x) (ap s q ∙ t) k))
-          ∙ p .latest x k
+          chosen-other e es x (λ (q : x ≡ e .decision). both-ways (s x) (ap s q ∙ t) k) ∙ p .latest x k
 
       off : chosen (p .older) (e .decision) ≡ 0
       off =
@@ -84,7 +84,7 @@ module _ (ds : List Decision) (s : Set) where
             culprit-blamed = p .culprit-blamed;
             latest = later;
             below = λ x k. chosen-more e es (h .1) x (p .below x k);
-            gone = ((sized ds (e .decision) (omega arith), off), p .gone);
+            gone = ((size-known ds (e .decision) (omega arith), off), p .gone);
           }
 
       remains : Parted (e ∷ es) (record { culprit = r .culprit; left = r .left; stays = e ∷ r .stays })
@@ -124,7 +124,7 @@ module _ (ds : List Decision) (s : Set) where
   module _ (es : List Entry) (h : Distinct ds es) (ex : Excluded) (rests : Bool) (within : Within es s) (r : Retreat) (p : Parted es r)
       (free : (d : ℕ) → 0 < chosen es d → ex d (chosen es d) ≡ None) where
     culprit-chosen : chosen es (r .culprit .decision) ≡ r .culprit .value
-    culprit-chosen = p .latest (r .culprit .decision) (p .culprit-blamed) ∙ chosen-here (r .culprit) (p .older)
+    culprit-chosen = p .latest (r .culprit .decision) (p .culprit-blamed) ∙ chosen-here (r .culprit) (p .older) (r .culprit .decision) refl
 
     was-free : ex (r .culprit .decision) (r .culprit .value) ≡ None
     was-free = rw culprit-chosen at (free (r .culprit .decision) (rw culprit-chosen (p .culprit-low)))

@@ -1,17 +1,17 @@
 -- Two books with the same rules, each equally often, have the same lawful plans at the same costs, and two settled accounts over them report one cost.
 use mathlib.Core.Bool.{Bool, true, false, cond, _&&_}
 use mathlib.Core.List.{List, [], _∷_}
-use mathlib.Core.Logic.{⊎-elim, _↔_}
+use mathlib.Core.Logic.{⊎-elim}
 use mathlib.Core.Path.{_≡_, refl, sym, _∙_, ap, subst}
 use Prim.Native.Nat.{ℕ, _+_, _≤_, _<_}
 use native.Mathlib.Omega.{arith}
-use lib.Dec.{eqb, ltb}
+use lib.Dec.{eqb}
 use lib.ListN.{length}
 use Rattle.std.specs.declared.option.Option.{Option}
 use Rattle.std.specs.declared.option.Option.the-variants.{None, Some}
 use Rattle.std.specs.shelf.Lists.{All, countBy}
 use Rattle.std.proofs.shelf.Sums.{sumBy-cons}
-use Rattle.std.proofs.shelf.Tests.{cases-bool, false≢true, cond-true, cond-false, eqb-true, eq-eqb, ltb-false, and-parts, and-from}
+use Rattle.std.proofs.shelf.Tests.{cases-bool, false≢true, cond-true, cond-false, eqb-true, eq-eqb, and-parts, and-from}
 use Rattle.measure.specs.Meaning.{Meaning}
 use Rattle.measure.specs.declared.price.Price.{Price}
 use Rattle.measure.proofs.Laws.{Laws}
@@ -19,17 +19,14 @@ use Rattle.rules.specs.Conditions.{Plan, meets, met, condition}
 use Rattle.rules.specs.Plans.{Book, Set, Closed, Lawful, cost, within, sizeAt, onAt}
 use Rattle.rules.specs.declared.decision.Decision.{Decision}
 use Rattle.rules.specs.declared.literal.Literal.{Literal}
-use Rattle.rules.specs.Refusals.{when}
-use Rattle.rules.specs.declared.refusal.Refusal.{Refusal}
-use Rattle.rules.specs.declared.refusal.Refusal.the-variants.{ShortPlan}
 use Rattle.rules.specs.declared.row.Kind.the-variants.{Forbid, Activate, Price as Priced}
 use Rattle.rules.specs.declared.row.Row.{Row}
 use Rattle.account.specs.Accounts.{Account, Best}
-use Rattle.account.specs.Calls.{reported, best, answer, answerIf, refusal, report, written}
-use Rattle.account.specs.Changes.{held}
+use Rattle.account.specs.Calls.{best, report}
 use Rattle.account.specs.Law.{samePairs, sameRule, SameRules, OneCost}
-use Rattle.account.specs.declared.state.State.{State}
 use Rattle.account.specs.declared.state.State.the-variants.{Settled}
+use Rattle.account.proofs.Reports.{Told, told, least, none}
+use Rattle.account.proofs.Sound.{Sound}
 
 -- rules that differ in nothing that a book reads
 record Alike (r s : Row) : Type 0 where
@@ -202,100 +199,43 @@ module _ (b b′ : Book) (ds : b .decisions ≡ b′ .decisions) (same : SameRul
   pub cost-same : {C : Type 0} (m : Meaning C) → Laws m → (p : Plan) → cost m (b .prices) p ≡ cost m (b′ .prices) p
   cost-same m laws p = cost-rearranged m laws p (rearrange (b .prices) (b′ .prices) (same Priced))
 
-when-none : {X : Type 0} (b : Bool) (x : X) → when b x ≡ None → b ≡ false
-when-none true x h = let z : _≡_ {A = ℕ} 0 1 = cc in absurd (omega arith)
-when-none false x h = refl
+module _ {C : Type 0} (m : Meaning C) (laws : Laws m) (a a′ : Account C) (s : Sound m a) (s′ : Sound m a′) (ds : a .book .decisions ≡ a′ .book .decisions) (same : SameRules (a .book) (a′ .book)) where
+  back : SameRules (a′ .book) (a .book)
+  back k r = sym (same k r)
 
--- the cost of what is held
-abbrev pub costIn : {C : Type 0} → Option (Best C) → Option C
-costIn None = None
-costIn (Some b) = Some (b .cost)
+  lawful-there : (p : Plan) → Lawful (a .book) p → Lawful (a′ .book) p
+  lawful-there = lawful-same (a .book) (a′ .book) ds same
 
-module _ {C : Type 0} (m : Meaning C) where
-  -- what a report tells of the account
-  pub record Reports (a : Account C) (buffer : List ℕ) (s : State) (c : Option C) (bytes : List ℕ) : Type 0 where
-    pub in-state : a .state ≡ s
-    pub costs : c ≡ costIn (a .best)
-    pub enough : length (a .book .decisions) ≤ length buffer
-    pub writes : (b : Best C) → a .best ≡ Some b → bytes ≡ written (length (a .book .decisions)) (b .plan) buffer
+  lawful-here : (p : Plan) → Lawful (a′ .book) p → Lawful (a .book) p
+  lawful-here = lawful-same (a′ .book) (a .book) (sym ds) back
 
-  module _ (a : Account C) (buffer : List ℕ) (s : State) (c : Option C) (bytes : List ℕ) where
-    report-tells : length (a .book .decisions) ≤ length buffer → (o : Option (Best C)) → a .best ≡ o → report (a .state) (length (a .book .decisions)) buffer o ≡ reported s c bytes → Reports a buffer s c bytes
-    report-tells long None is h =
-        record {
-          in-state = cc;
-          costs = let z : c ≡ None = cc in z ∙ ap costIn (sym is);
-          enough = long;
-          writes = λ b held. let z : _≡_ {A = ℕ} 0 1 = cc in absurd (omega arith);
-        }
-    report-tells long (Some b) is h =
-        record {
-          in-state = cc;
-          costs = let z : c ≡ Some (b .cost) = cc in z ∙ ap costIn (sym is);
-          enough = long;
-          writes =
-              λ b′ held.
-              let z : b ≡ b′ = cc in
-              let w : bytes ≡ written (length (a .book .decisions)) (b .plan) buffer = cc in
-              w ∙ ap (λ (x : Best C). written (length (a .book .decisions)) (x .plan) buffer) z;
-        }
+  module _ (e : a .state ≡ Settled) (e′ : a′ .state ≡ Settled) (buffer buffer′ bytes bytes′ : List ℕ) (c c′ : Option C) where
+    costs-agree : (o o′ : Option (Best C)) → a .best ≡ o → a′ .best ≡ o′ → Told (length (a .book .decisions)) buffer o c bytes → Told (length (a′ .book .decisions)) buffer′ o′ c′ bytes′ → c ≡ c′
+    costs-agree None None is is′ t t′ = t ∙ sym t′
+    costs-agree None (Some b′) is is′ t t′ = absurd (rw is at (s .settled e (b′ .plan) (lawful-here (b′ .plan) (s′ .best-good b′ is′ .lawful))))
+    costs-agree (Some b) None is is′ t t′ = absurd (rw is′ at (s′ .settled e′ (b .plan) (lawful-there (b .plan) (s .best-good b is .lawful))))
+    costs-agree (Some b) (Some b′) is is′ t t′ =
+        let good = s .best-good b is in
+        let good′ = s′ .best-good b′ is′ in
+        let low = rw is at (s .settled e (b′ .plan) (lawful-here (b′ .plan) (good′ .lawful))) in
+        let low′ = rw is′ at (s′ .settled e′ (b .plan) (lawful-there (b .plan) (good .lawful))) in
+        let paid = good′ .costs ∙ cost-same (a′ .book) (a .book) (sym ds) back m laws (b′ .plan) in
+        let paid′ = good .costs ∙ cost-same (a .book) (a′ .book) ds same m laws (b .plan) in
+        t .0
+        ∙ ap Some
+        (laws .equal (b .cost) (b′ .cost) (subst (λ (x : C). m .atMost (b .cost) x ≡ true) (sym paid) low)
+        (subst (λ (x : C). m .atMost (b′ .cost) x ≡ true) (sym paid′) low′))
+        ∙ sym (t′ .0)
 
-    best-tells : (o : Option Refusal) → refusal a (best buffer) ≡ o → answerIf m a (best buffer) o ≡ reported s c bytes → Reports a buffer s c bytes
-    best-tells (Some e) is h = let z : _≡_ {A = ℕ} 0 1 = cc in absurd (omega arith)
-    best-tells None is h = report-tells (ltb-false (length buffer) (length (a .book .decisions)) (when-none (ltb (length buffer) (length (a .book .decisions))) ShortPlan is)) (a .best) refl h
-
-    pub reported-tells : answer m a (best buffer) ≡ reported s c bytes → Reports a buffer s c bytes
-    reported-tells h = best-tells (refusal a (best buffer)) refl h
-
-  -- what is known of an account's best, and of its end once it is settled
-  pub record Ended (a : Account C) : Type 0 where
-    pub lawful : (b : Best C) → a .best ≡ Some b → Lawful (a .book) (b .plan)
-    pub priced : (b : Best C) → a .best ≡ Some b → b .cost ≡ cost m (a .book .prices) (b .plan)
-    pub least : a .state ≡ Settled → (b : Best C) → a .best ≡ Some b → (p : Plan) → Lawful (a .book) p → m .atMost (b .cost) (cost m (a .book .prices) p) ≡ true
-    pub none : a .state ≡ Settled → a .best ≡ None → (p : Plan) → Lawful (a .book) p → ⊥
-
-  module _ (a : Account C) (ended : Ended a) where
-    least-reported : (buffer bytes : List ℕ) (c : C) → answer m a (best buffer) ≡ reported Settled (Some c) bytes → (p : Plan) → Lawful (a .book) p → m .atMost c (cost m (a .book .prices) p) ≡ true
-    least-reported buffer bytes c h p l =
-        let told = reported-tells a buffer Settled (Some c) bytes h in
-        go (a .best) refl (told .costs)
-      where
-        go : (o : Option (Best C)) → a .best ≡ o → Some c ≡ costIn o → m .atMost c (cost m (a .book .prices) p) ≡ true
-        go None is e = let z : _≡_ {A = ℕ} 0 1 = cc in absurd (omega arith)
-        go (Some b) is e = let z : b .cost ≡ c = cc in subst (λ (x : C). m .atMost x (cost m (a .book .prices) p) ≡ true) z (ended .least (reported-tells a buffer Settled (Some c) bytes h .in-state) b is p l)
-
-    none-reported : (buffer bytes : List ℕ) (c : Option C) → answer m a (best buffer) ≡ reported Settled c bytes → (c ≡ None) ↔ ((p : Plan) → Lawful (a .book) p → ⊥)
-    none-reported buffer bytes c h = go (a .best) refl (reported-tells a buffer Settled c bytes h .costs)
-      where
-        go : (o : Option (Best C)) → a .best ≡ o → c ≡ costIn o → (c ≡ None) ↔ ((p : Plan) → Lawful (a .book) p → ⊥)
-        go None is e = (λ _. ended .none (reported-tells a buffer Settled c bytes h .in-state) is, λ _. e)
-        go (Some b) is e = (λ k. let z : _≡_ {A = ℕ} 0 1 = cc in absurd (omega arith), λ k. absurd (k (b .plan) (ended .lawful b is)))
-
-  module _ (laws : Laws m) (a a′ : Account C) (ended : Ended a) (ended′ : Ended a′) (ds : a .book .decisions ≡ a′ .book .decisions) (same : SameRules (a .book) (a′ .book)) where
-    back : SameRules (a′ .book) (a .book)
-    back k r = sym (same k r)
-
-    costs-agree : a .state ≡ Settled → a′ .state ≡ Settled → (o o′ : Option (Best C)) → a .best ≡ o → a′ .best ≡ o′ → costIn o ≡ costIn o′
-    costs-agree s s′ None None is is′ = refl
-    costs-agree s s′ None (Some b′) is is′ = absurd (ended .none s is (b′ .plan) (lawful-same (a′ .book) (a .book) (sym ds) back (b′ .plan) (ended′ .lawful b′ is′)))
-    costs-agree s s′ (Some b) None is is′ = absurd (ended′ .none s′ is′ (b .plan) (lawful-same (a .book) (a′ .book) ds same (b .plan) (ended .lawful b is)))
-    costs-agree s s′ (Some b) (Some b′) is is′ =
-        let there = cost-same (a′ .book) (a .book) (sym ds) back m laws (b′ .plan) in
-        let here = cost-same (a .book) (a′ .book) ds same m laws (b .plan) in
-        let low = ended .least s b is (b′ .plan) (lawful-same (a′ .book) (a .book) (sym ds) back (b′ .plan) (ended′ .lawful b′ is′)) in
-        let low′ = ended′ .least s′ b′ is′ (b .plan) (lawful-same (a .book) (a′ .book) ds same (b .plan) (ended .lawful b is)) in
-        ap Some
-        (laws .equal (b .cost) (b′ .cost) (subst (λ (x : C). m .atMost (b .cost) x ≡ true) (sym (ended′ .priced b′ is′ ∙ there)) low)
-        (subst (λ (x : C). m .atMost (b′ .cost) x ≡ true) (sym (ended .priced b is ∙ here)) low′))
-
-    -- two settled accounts over the same rules report one cost
-    pub one-cost : OneCost m a a′
-    one-cost =
-        record {
-          same = λ buffer buffer′ bytes bytes′ c c′ h h′.
-              let told = reported-tells a buffer Settled c bytes h in
-              let told′ = reported-tells a′ buffer′ Settled c′ bytes′ h′ in
-              told .costs ∙ costs-agree (told .in-state) (told′ .in-state) (a .best) (a′ .best) refl refl ∙ sym (told′ .costs);
-          least = least-reported a ended;
-          none = none-reported a ended;
-        }
+  -- two settled accounts over the same rules report one cost
+  pub one-cost : OneCost m a a′
+  one-cost =
+      record {
+        same =
+            λ buffer buffer′ bytes bytes′ c c′ h h′.
+            let k = told m a buffer bytes Settled c h in
+            let k′ = told m a′ buffer′ bytes′ Settled c′ h′ in
+            costs-agree (k .0) (k′ .0) buffer buffer′ bytes bytes′ c c′ (a .best) (a′ .best) refl refl (k .1) (k′ .1);
+        least = least m a s;
+        none = none m a s;
+      }

@@ -1,6 +1,6 @@
 -- A blame stays within the trail, and one step keeps an account formed.
 use mathlib.Core.Bool.{Bool, true, false}
-use mathlib.Core.List.{List, _∷_}
+use mathlib.Core.List.{_∷_}
 use mathlib.Core.Logic.{⊎-elim}
 use mathlib.Core.Path.{_≡_, _∙_, ap}
 use Prim.Native.Nat.{ℕ, _≤_, _<_}
@@ -18,11 +18,7 @@ use Rattle.account.proofs.Finds.{Picked, picked, waits-idle, support-chosen, F
 use Rattle.account.proofs.Formed.{Formed}
 use Rattle.account.proofs.Prices.{price-chosen}
 use Rattle.account.proofs.Tested.{Given, New, given-within, tested-some, tested-other, except-parts, relearned, relearned-free}
-use Rattle.account.proofs.Trails.{chosen-here, chosen-other, chosen-range, Left, Retreated, retreated}
-
--- a set of decisions on the trail
-abbrev pub Within : List Entry → Set → Type 0
-Within es s = (x : ℕ) → s x ≡ true → 0 < chosen es x
+use Rattle.account.proofs.Trails.{Within, chosen-here, chosen-other, chosen-range, Left, Retreated, retreated}
 
 module _ {C : Type 0} (a : Account C) (f : Formed a) (s : Set) (rests : Bool) (w : Within (a .trail) s) where
   module _ (r : Retreat) (l : Left (a .book) s (a .trail) r) where

@@ -21,9 +21,9 @@ use Rattle.account.specs.Steps.{Retreat, retreat, relearn, blamed, blame}
 use Rattle.account.specs.declared.state.State.the-variants.{Settled}
 use Rattle.account.proofs.Formed.{Formed}
 use Rattle.account.proofs.Meeting.{met-fewer}
-use Rattle.account.proofs.Shapes.{Within, blame-formed}
+use Rattle.account.proofs.Shapes.{blame-formed}
 use Rattle.account.proofs.Tested.{relearned, except-from}
-use Rattle.account.proofs.Trails.{Grounded, Left, Retreated, retreated}
+use Rattle.account.proofs.Trails.{Within, Grounded, Left, Retreated, retreated}
 
 -- a best is lawful, and its cost is the defined one
 pub record Good {C : Type 0} (m : Meaning C) (b : Book) (best : Best C) : Type 0 where

@@ -21,6 +21,10 @@ use Rattle.account.specs.Steps.{Retreat, follow, retreat}
 use Rattle.account.proofs.Formed.{Distinct}
 use Rattle.account.proofs.Meeting.{met-same}
 
+-- a set of decisions on the trail
+abbrev pub Within : List Entry → Set → Type 0
+Within es s = (x : ℕ) → s x ≡ true → 0 < chosen es x
+
 pub chosen-here : (e : Entry) (es : List Entry) (x : ℕ) → x ≡ e .decision → chosen (e ∷ es) x ≡ e .value
 chosen-here e es x h = cond-true (eqb x (e .decision)) (e .value) (chosen es x) (eq-eqb x (e .decision) h)
 
@@ -33,13 +37,6 @@ size-known ds d h = ⊎-elim (λ l. l) (λ l. absurd (past l)) (cases-lt d (leng
   where
     past : length ds ≤ d → ⊥
     past l = omega (arith, ap (λ (x : Decision). x .size) (getD-past ds d absent l))
-
--- a decision that is marked on is one of those that there are
-pub on-known : (ds : List Decision) (d : ℕ) → onAt ds d ≡ true → d < length ds
-on-known ds d h = ⊎-elim (λ l. l) (λ l. absurd (past l)) (cases-lt d (length ds))
-  where
-    past : length ds ≤ d → ⊥
-    past l = both-ways (onAt ds d) (ap (λ (x : Decision). x .on) (getD-past ds d absent l)) h
 
 -- the values of a trail are in range
 pub chosen-range : (ds : List Decision) (es : List Entry) → Distinct ds es → (x : ℕ) → chosen es x ≤ sizeAt ds x

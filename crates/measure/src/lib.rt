@@ -8,6 +8,8 @@ ghost use Rattle.measure.specs.Meaning.{Meaning};
 mod cents;
 mod pair;
 mod price;
+#[cfg(test)]
+mod tests;
 mod tier;
 
 pub use cents::Cents;

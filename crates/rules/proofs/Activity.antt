@@ -99,7 +99,7 @@ agree-or-more s t sub (suc n) = go (s n) (t n) refl refl (agree-or-more s t sub 
     kept old new d h k = ⊎-elim (λ (e : d ≡ n). rw e (new (rw (← e) k))) (λ (ne : d ≡ n → ⊥). old d (at-last d h ne) k) (cases-eq d n)
 
     go : (x y : Bool) → s n ≡ x → t n ≡ y → (((d : ℕ) → d < n → t d ≡ true → s d ≡ true) × (count s n ≤ count t n)) ⊎ (count s n < count t n)
-      → (((d : ℕ) → d < suc n → t d ≡ true → s d ≡ true) × (count s n + cond x 1 0 ≤ count t n + cond y 1 0)) ⊎ (count s n + cond x 1 0 < count t n + cond y 1 0)
+        → (((d : ℕ) → d < suc n → t d ≡ true → s d ≡ true) × (count s n + cond x 1 0 ≤ count t n + cond y 1 0)) ⊎ (count s n + cond x 1 0 < count t n + cond y 1 0)
     go true true e f (inl (old, le)) = inl (kept old (λ k. e), omega arith)
     go true true e f (inr lt) = inr (omega arith)
     go true false e f h = absurd (both-ways (t n) f (sub n e))
@@ -159,10 +159,11 @@ rounds-more rs p s (suc n) d h = or-left (rounds n rs p s d) (enables rs (within
 -- each met rule's target is enabled
 enables-each : (rs : List Row) (q : Plan) → All (λ r. met q r ≡ true → enables rs q (r .target) ≡ true) rs
 enables-each [] q = tt
-enables-each (r ∷ rs) q =
-    (λ h. or-left (eqb (r .target) (r .target) && met q r) (enables rs q (r .target)) (and-from (eqb (r .target) (r .target)) (met q r) (eq-eqb (r .target) (r .target) refl) h),
-    all-weaker (λ x. met q x ≡ true → enables rs q (x .target) ≡ true) (λ x. met q x ≡ true → enables (r ∷ rs) q (x .target) ≡ true)
-    (λ x f h. or-right (eqb (x .target) (r .target) && met q r) (enables rs q (x .target)) (f h)) rs (enables-each rs q))
+enables-each (r ∷ rs) q = (
+  λ h. or-left (eqb (r .target) (r .target) && met q r) (enables rs q (r .target)) (and-from (eqb (r .target) (r .target)) (met q r) (eq-eqb (r .target) (r .target) refl) h),
+  all-weaker (λ x. met q x ≡ true → enables rs q (x .target) ≡ true) (λ x. met q x ≡ true → enables (r ∷ rs) q (x .target) ≡ true)
+      (λ x f h. or-right (eqb (x .target) (r .target) && met q r) (enables rs q (x .target)) (f h)) rs (enables-each rs q),
+)
 
 -- what is worked out is closed
 pub active-closed : (b : Book) (p : Plan) → Targets (length (b .decisions)) (b .activates) → Closed b p (active b p)
@@ -170,17 +171,18 @@ active-closed b p known =
     record {
       marked = λ d h. rounds-more (b .activates) p (onAt (b .decisions)) (length (b .decisions)) d h;
       enabled =
-        all-weaker (λ r. met (within (active b p) p) r ≡ true → enables (b .activates) (within (active b p) p) (r .target) ≡ true) (λ r. met (within (active b p) p) r ≡ true → active b p (r .target) ≡ true)
-        (λ r f h. subst (λ (s : Set). s (r .target) ≡ true) (rounds-stable (b .activates) p (length (b .decisions)) known (onAt (b .decisions)))
-        (or-right (active b p (r .target)) (enables (b .activates) (within (active b p) p) (r .target)) (f h)))
-        (b .activates) (enables-each (b .activates) (within (active b p) p));
+          all-weaker (λ r. met (within (active b p) p) r ≡ true → enables (b .activates) (within (active b p) p) (r .target) ≡ true) (λ r. met (within (active b p) p) r ≡ true → active b p (r .target) ≡ true)
+          (λ r f h. subst (λ (s : Set). s (r .target) ≡ true) (rounds-stable (b .activates) p (length (b .decisions)) known (onAt (b .decisions)))
+          (or-right (active b p (r .target)) (enables (b .activates) (within (active b p) p) (r .target)) (f h)))
+          (b .activates) (enables-each (b .activates) (within (active b p) p));
     }
 
 -- what is active is worked out
 pub active-complete : (b : Book) (p : Plan) → Targets (length (b .decisions)) (b .activates) → (d : ℕ) → Active b p d → active b p d ≡ true
 active-complete b p known d h = h (active b p) (active-closed b p known)
 
-on-known : (b : Book) (d : ℕ) → onAt (b .decisions) d ≡ true → d < length (b .decisions)
+-- a decision that is marked on is one of those that there are
+pub on-known : (b : Book) (d : ℕ) → onAt (b .decisions) d ≡ true → d < length (b .decisions)
 on-known b d h =
     ⊎-elim (λ (l : d < length (b .decisions)). l)
     (λ (g : length (b .decisions) ≤ d). absurd (false≢true (ap (λ (x : Decision). x .on) (sym (List·getD-eq-default (b .decisions) absent g)) ∙ h)))

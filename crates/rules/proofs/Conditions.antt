@@ -6,7 +6,7 @@ use mathlib.Core.Path.{_≡_, refl, sym, ap, _∙_}
 use Prim.Native.Nat.{ℕ, _<_, _≤_}
 use native.Mathlib.Omega.{arith}
 use lib.Dec.{eqb, ltb}
-use Rattle.std.proofs.shelf.Tests.{and-parts, and-from, or-cases, eqb-true, eq-eqb, ltb-true, lt-ltb, false≢true}
+use Rattle.std.proofs.shelf.Tests.{and-parts, and-from, or-cases, or-right, eqb-true, eq-eqb, ltb-true, lt-ltb, false≢true}
 use Rattle.rules.specs.Conditions.{Plan, has, meets, names}
 use Rattle.rules.specs.declared.literal.Literal.{Literal}
 
@@ -37,9 +37,5 @@ pub meets-same : (p q : Plan) (ls : List Literal) → ((d : ℕ) → names ls d 
 meets-same p q [] same = refl
 meets-same p q (l ∷ ls) same =
     let here = same (l .decision) (names-here l ls) in
-    let rest = meets-same p q ls (λ d k. same d (or-later (eqb d (l .decision)) (names ls d) k)) in
+    let rest = meets-same p q ls (λ d k. same d (or-right (eqb d (l .decision)) (names ls d) k)) in
     rw (here, rest) refl
-  where
-    or-later : (x y : Bool) → y ≡ true → (x || y) ≡ true
-    or-later true y h = refl
-    or-later false y h = h

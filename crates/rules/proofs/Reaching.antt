@@ -61,7 +61,7 @@ reached-at [] q s d = or-false (s d)
 reached-at (r ∷ rs) q s d = go (isActivate (r .kind)) (met q r) refl (λ t. reached-at rs q t d)
   where
     go : (a m : Bool) → met q r ≡ m → ((t : Set) → reached rs q t d ≡ (t d || enables (activates rs) q d))
-      → reached rs q (cond (a && m) (insert (r .target) s) s) d ≡ (s d || enables (cond a (r ∷ activates rs) (activates rs)) q d)
+        → reached rs q (cond (a && m) (insert (r .target) s) s) d ≡ (s d || enables (cond a (r ∷ activates rs) (activates rs)) q d)
     go false m e later = later s
     go true false e later =
         later s

@@ -112,7 +112,11 @@ fn first_breach(decisions: &[Decision], rows: &[Row], plan: &[u8]) -> Option<Bre
 /// Judges a plan, a byte for each decision: its value, or 0 if it is idle. Refuses more than 64 decisions, then a size
 /// outside 1 to 16, then the first row that names an unknown decision or else an unknown value, then a plan of fewer
 /// bytes than decisions.
-pub fn judge<M: Measure>(decisions: &[Decision], rows: &[Row], plan: &[u8]) -> Result<Verdict<M>, Refusal>
+pub fn judge<M: Measure>(
+    decisions: &[Decision],
+    rows: &[Row],
+    plan: &[u8],
+) -> Result<Verdict<M>, Refusal>
     ensures { λ r. ⌜ Answered meaning (now (decisions .entry)) (now (rows .entry)) (now (plan .entry)) r ⌝ }
 {
     check_decisions(decisions)?;

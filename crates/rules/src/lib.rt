@@ -9,6 +9,8 @@ mod literal;
 mod refusal;
 mod row;
 mod rule;
+#[cfg(test)]
+mod tests;
 mod verdict;
 
 pub use checks::check_decisions;

@@ -46,7 +46,13 @@ impl Rule {
     /// Makes this the rule of a kind with these pairs, this target and this price; a target or a price that the
     /// kind lacks is 0. Refuses if the pairs are not one to four, then if their decisions do not strictly ascend,
     /// then if a price rule's cents are over 1,000,000,000; the rule then stays as it was.
-    pub fn compose(&mut self, kind: Kind, pairs: &[Literal], target: u8, price: Price) -> Result<(), Refusal>
+    pub fn compose(
+        &mut self,
+        kind: Kind,
+        pairs: &[Literal],
+        target: u8,
+        price: Price,
+    ) -> Result<(), Refusal>
         ensures value { λ r. ⌜ r ≡ asResult (composeRefusal kind (now (pairs .entry)) price) ⌝ }
         ensures after { λ r. ⌜ now (self .exit) .row ≡ unlessRefused (composeRefusal kind (now (pairs .entry)) price) (now (self .entry) .row) (composed kind (now (pairs .entry)) target price) ⌝ }
     {

@@ -1,4 +1,3 @@
-use Rattle.measure.proofs.Laws.{Laws}
 use Rattle.account.proofs.Planning.{planning}
 use Rattle.account.proofs.planning_law.Needs as need
 

@@ -23,10 +23,11 @@ loop-again c =
     let rs = c .args .rows .now in
     let p = fromBytes (c .args .plan .now) in
     let on = onAt (c .args .decisions .now) in
-    let s = fromFlags (c .loop .flags) in
-    (c .reach .ensures .long,
-    c .reach .ensures .after ∙ ap (λ (q : Plan). reached rs q s) (c .choices-chosen .ensures) ∙ pass-is-round rs p s
-    ∙ ap (grown (activates rs) p) (c .loop .inv .1) ∙ ap (λ (n : ℕ). rounds n (activates rs) p on) (sym (add-one (c .loop .counter))))
+    let s = fromFlags (c .loop .flags) in (
+      c .reach .ensures .long,
+      c .reach .ensures .after ∙ ap (λ (q : Plan). reached rs q s) (c .choices-chosen .ensures) ∙ pass-is-round rs p s
+          ∙ ap (grown (activates rs) p) (c .loop .inv .1) ∙ ap (λ (n : ℕ). rounds n (activates rs) p on) (sym (add-one (c .loop .counter))),
+    )
 
 pub returns : need.returns
 returns c =

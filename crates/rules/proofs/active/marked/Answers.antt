@@ -13,6 +13,6 @@ returns c =
     record {
       long = c .loop-i .inv .0;
       value =
-        filled-all (c .loop-i .flags) (onAt ds) false (c .loop-i .i) (omega arith) (c .loop-i .inv)
-        (λ k h. ap (λ (d : Decision). d .on) (List·getD-eq-default ds absent (omega arith)));
+          filled-all (c .loop-i .flags) (onAt ds) false (c .loop-i .i) (omega arith) (c .loop-i .inv)
+          (λ k h. ap (λ (d : Decision). d .on) (List·getD-eq-default ds absent (omega arith)));
     }

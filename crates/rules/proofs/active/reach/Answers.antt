@@ -26,14 +26,14 @@ loop-row-again c =
     let i = c .loop-row .row-index in
     let flags = c .loop-row .flags in
     let later = λ (s : Set). reached (drop (i + 1) rs) q s in
-    elim (c .if-fires .came)
-    [ then-fires w ↦
-      let h = sym (w .if-fires .ensures tt) in
-      let low = all-getD (λ r. isActivate (r .kind) ≡ true → r .target < 64) rs i _ (c .loop-row-test .taken) (c .pre .known) (and-parts _ _ h .0) in
-      (c .if-fires .array-long, c .loop-row .inv .1 ∙ reached-yes rs q (fromFlags flags) i _ (c .loop-row-test .taken) h ∙ ap later (sym (ap fromFlags (w .flags-is) ∙ raised flags _ (omega (arith, low, c .loop-row .inv .0)))))
-    | else-fires w ↦
-      let h = sym (w .if-fires .ensures tt) in
-      (c .if-fires .array-long, c .loop-row .inv .1 ∙ reached-no rs q (fromFlags flags) i _ (c .loop-row-test .taken) h ∙ ap later (sym (ap fromFlags (w .flags-is))))
+    elim (c .if-fires .came) [
+      | then-fires w ↦
+          let h = sym (w .if-fires .ensures tt) in
+          let low = all-getD (λ r. isActivate (r .kind) ≡ true → r .target < 64) rs i _ (c .loop-row-test .taken) (c .pre .known) (and-parts _ _ h .0) in
+          (c .if-fires .array-long, c .loop-row .inv .1 ∙ reached-yes rs q (fromFlags flags) i _ (c .loop-row-test .taken) h ∙ ap later (sym (ap fromFlags (w .flags-is) ∙ raised flags _ (omega (arith, low, c .loop-row .inv .0)))))
+      | else-fires w ↦
+          let h = sym (w .if-fires .ensures tt) in
+          (c .if-fires .array-long, c .loop-row .inv .1 ∙ reached-no rs q (fromFlags flags) i _ (c .loop-row-test .taken) h ∙ ap later (sym (ap fromFlags (w .flags-is))))
     ]
 
 pub returns : need.returns

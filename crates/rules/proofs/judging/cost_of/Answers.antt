@@ -22,15 +22,15 @@ loop-row-again g c =
     let rs = c .args .rows .now in
     let i = c .loop-row .row-index in
     let later = cost m (prices (drop (i + 1) rs)) p in
-    elim (c .if-pays .came)
-    [ then-pays w ↦
-      ap (λ x. m .joins x later) (w .sum-is ∙ w .join-sum .ensures ∙ ap (m .joins (c .loop-row .sum)) (w .read .ensures))
-      ∙ sym (cost-paid p rs i _ (c .loop-row-test .taken) m (g .M·Measure·met .«joining_is_associative») (c .loop-row .sum) (sym (w .if-pays .ensures tt)))
-      ∙ c .loop-row .inv
-    | else-pays w ↦
-      ap (λ x. m .joins x later) (w .sum-is)
-      ∙ ap (m .joins (c .loop-row .sum)) (sym (cost-free p rs i _ (c .loop-row-test .taken) m (sym (w .if-pays .ensures tt))))
-      ∙ c .loop-row .inv
+    elim (c .if-pays .came) [
+      | then-pays w ↦
+          ap (λ x. m .joins x later) (w .sum-is ∙ w .join-sum .ensures ∙ ap (m .joins (c .loop-row .sum)) (w .read .ensures))
+          ∙ sym (cost-paid p rs i _ (c .loop-row-test .taken) m (g .M·Measure·met .«joining_is_associative») (c .loop-row .sum) (sym (w .if-pays .ensures tt)))
+          ∙ c .loop-row .inv
+      | else-pays w ↦
+          ap (λ x. m .joins x later) (w .sum-is)
+          ∙ ap (m .joins (c .loop-row .sum)) (sym (cost-free p rs i _ (c .loop-row-test .taken) m (sym (w .if-pays .ensures tt))))
+          ∙ c .loop-row .inv
     ]
 
 pub returns : need.returns

@@ -20,13 +20,15 @@ loop-row-again c =
     let rs = c .args .rows .now in
     let i = c .loop-row .row-index in
     let later = λ (n : ℕ). placeFrom n (forbids (drop (i + 1) rs)) p in
-    elim (c .if-is-forbid .came)
-    [ then-is-forbid·else-met w ↦
-      (omega (arith, w .place-is, c .loop-row .inv .0),
-      c .loop-row .inv .1 ∙ place-unmet p rs i _ (c .loop-row-test .taken) (c .loop-row .place) (sym (w .if-is-forbid .ensures tt)) (sym (w .if-met .ensures tt)) ∙ ap later (sym (w .place-is)))
-    | else-is-forbid w ↦
-      (omega (arith, w .place-is, c .loop-row .inv .0),
-      c .loop-row .inv .1 ∙ place-other p rs i _ (c .loop-row-test .taken) (c .loop-row .place) (sym (w .if-is-forbid .ensures tt)) ∙ ap later (sym (w .place-is)))
+    elim (c .if-is-forbid .came) [
+      | then-is-forbid·else-met w ↦ (
+        omega (arith, w .place-is, c .loop-row .inv .0),
+        c .loop-row .inv .1 ∙ place-unmet p rs i _ (c .loop-row-test .taken) (c .loop-row .place) (sym (w .if-is-forbid .ensures tt)) (sym (w .if-met .ensures tt)) ∙ ap later (sym (w .place-is)),
+      )
+      | else-is-forbid w ↦ (
+        omega (arith, w .place-is, c .loop-row .inv .0),
+        c .loop-row .inv .1 ∙ place-other p rs i _ (c .loop-row-test .taken) (c .loop-row .place) (sym (w .if-is-forbid .ensures tt)) ∙ ap later (sym (w .place-is)),
+      )
     ]
 
 pub returns : need.returns
