@@ -82,16 +82,18 @@ module _ {C : Type 0} (m : Meaning C) (a : Account C) where
   settled-stays k zero h = (ap (λ (n : ℕ). advance m n a) (add-zero k), ap (λ (n : ℕ). made m n a) (add-zero k))
   settled-stays k (suc j) h =
       let (same, count) = settled-stays k j h in
-      let over = ap (λ (b : Account C). b .state) same ∙ h in
-      (ap (λ (n : ℕ). advance m n a) (add-suc k j) ∙ settled-next (advance m (k + j) a) over ∙ same,
-      ap (λ (n : ℕ). made m n a) (add-suc k j) ∙ ap (λ (s : State). made m (k + j) a + oneIfOpen s) over ∙ add-zero (made m (k + j) a) ∙ count)
+      let over = ap (λ (b : Account C). b .state) same ∙ h in (
+        ap (λ (n : ℕ). advance m n a) (add-suc k j) ∙ settled-next (advance m (k + j) a) over ∙ same,
+        ap (λ (n : ℕ). made m n a) (add-suc k j) ∙ ap (λ (s : State). made m (k + j) a + oneIfOpen s) over ∙ add-zero (made m (k + j) a) ∙ count,
+      )
 
   -- an open planner makes one more
   pub open-more : (k : ℕ) (b : Account C) → b ≡ advance m k a → isOpen (b .state) ≡ true → k ≡ made m k a → (step m b ≡ advance m (k + 1) a) × (k + 1 ≡ made m (k + 1) a)
   open-more k b e o count =
-      let now-open = ap (λ (x : Account C). x .state) (sym e) ∙ is-open (b .state) o in
-      (ap (step m) e ∙ sym (ap (advanceIn m (advance m k a)) now-open) ∙ ap (λ (n : ℕ). advance m n a) (sym (add-one k)),
-      ap (λ (n : ℕ). n + 1) count ∙ sym (ap (λ (s : State). made m k a + oneIfOpen s) now-open) ∙ ap (λ (n : ℕ). made m n a) (sym (add-one k)))
+      let now-open = ap (λ (x : Account C). x .state) (sym e) ∙ is-open (b .state) o in (
+        ap (step m) e ∙ sym (ap (advanceIn m (advance m k a)) now-open) ∙ ap (λ (n : ℕ). advance m n a) (sym (add-one k)),
+        ap (λ (n : ℕ). n + 1) count ∙ sym (ap (λ (s : State). made m k a + oneIfOpen s) now-open) ∙ ap (λ (n : ℕ). made m n a) (sym (add-one k)),
+      )
     where
       is-open : (s : State) → isOpen s ≡ true → s ≡ Open
       is-open Open h = refl

@@ -18,7 +18,7 @@ use Rattle.rules.specs.Conditions.{Plan}
 use Rattle.rules.specs.Plans.{Book, Set, cost, enables, onAt, sizeAt}
 use Rattle.rules.specs.Refusals.{orElse, when}
 use Rattle.tables.proofs.Entering.{Enters, proper-parts}
-use Rattle.tables.proofs.Sweeps.{meets-any}
+use Rattle.tables.proofs.Listed.{meets-any}
 use Rattle.tables.specs.Entries.{inList, proper}
 use Rattle.tables.specs.Excluded.{unlessMeets}
 use Rattle.planner.specs.Bests.{costHeld}
@@ -46,7 +46,7 @@ culprit-in-range s (e ∷ es) r p h = go (s (e .decision)) h (culprit-in-range s
     parts = proper-parts e es p
 
     go : (b : Bool) → cond b (Some (record { culprit = e; left = e .decision ∷ []; stays = es })) (follow e (retreat s es)) ≡ Some r
-      → ((q : Retreat) → proper es ≡ true → retreat s es ≡ Some q → InRange (q .culprit)) → InRange (r .culprit)
+        → ((q : Retreat) → proper es ≡ true → retreat s es ≡ Some q → InRange (q .culprit)) → InRange (r .culprit)
     go true k later =
         let x : r ≡ record { culprit = e; left = e .decision ∷ []; stays = es } = cc in
         subst (λ (y : Entry). InRange y) (sym (ap (λ (y : Retreat). y .culprit) x)) (parts .0 .known, parts .0 .some, parts .0 .few)
@@ -68,7 +68,7 @@ module _ {C : Type 0} (a : Account C) (s : Set) (rests : Bool) where
       → record { book = a .book; ranks = a .ranks; trail = es; exclusions = ex; best = a .best; state = a .state } ≡ blame a s rests
   retreated es c left gone rest forgot ex h g low u f k =
       let account : (ℕ → ℕ → Option Exclusion) → Account C =
-        λ x. record { book = a .book; ranks = a .ranks; trail = es; exclusions = x; best = a .best; state = a .state } in
+      λ x. record { book = a .book; ranks = a .ranks; trail = es; exclusions = x; best = a .best; state = a .state } in
       ap account (k ∙ fun-ext (λ (x : ℕ). fun-ext (λ (w : ℕ). cell x w))) ∙ ap (blamed a s rests) (sym h)
     where
       cell : (x w : ℕ) → cond (eqb x (c .decision) && eqb w (c .value)) (Some (record { reason = rest; rests = rests })) (forgot x w) ≡ relearn (a .exclusions) s rests (record { culprit = c; left = left; stays = es }) x w
@@ -120,7 +120,7 @@ module _ {C : Type 0} (m : Meaning C) (a : Account C) (d : ℕ) where
     unfolding extend
     entered v s es u h e =
         let account : List Entry → (ℕ → ℕ → Option Exclusion) → Account C =
-          λ t x. record { book = a .book; ranks = a .ranks; trail = t; exclusions = x; best = a .best; state = a .state } in
+        λ t x. record { book = a .book; ranks = a .ranks; trail = t; exclusions = x; best = a .best; state = a .state } in
         let made = e ∙ ap (λ (t : Set). record { decision = d; value = v; support = t } ∷ a .trail) (u ∙ ap (λ (q : Plan). support (a .book) q d) plan) in
         ap₂ account made all-tested
         ∙ ap (enter (withExclusions a (tested m a d)) d) (h ∙ ap₂ (λ (x : ℕ → ℕ → Option Exclusion) (k : ℕ). smallestFree (x d) k) all-tested sized)
@@ -131,7 +131,7 @@ module _ {C : Type 0} (m : Meaning C) (a : Account C) (d : ℕ) where
     unfolding extend
     stuck s r blamed rests u h e f k =
         let whole : (ℕ → ℕ → Option Exclusion) → Set → Bool → Account C =
-          λ x t b. blame (record { book = a .book; ranks = a .ranks; trail = a .trail; exclusions = x; best = a .best; state = a .state }) t b in
+        λ x t b. blame (record { book = a .book; ranks = a .ranks; trail = a .trail; exclusions = x; best = a .best; state = a .state }) t b in
         let reason = e ∙ ap₂ (λ (x : ℕ → ℕ → Option Exclusion) (j : ℕ). reasons (x d) j) all-tested sized in
         let set = k ∙ ap₂ (λ (x y : Set). either x y) reason (u ∙ ap (λ (q : Plan). support (a .book) q d) plan) in
         let rest = f ∙ ap₂ (λ (x : ℕ → ℕ → Option Exclusion) (j : ℕ). anyRests (x d) j) all-tested sized in
@@ -145,7 +145,7 @@ module _ {C : Type 0} (m : Meaning C) (a : Account C) (d : ℕ) where
   unfolding conclude
   concluded p b s e f g =
       let whole : Best C → Set → Account C =
-        λ x t. blame (record { book = a .book; ranks = a .ranks; trail = a .trail; exclusions = a .exclusions; best = Some x; state = a .state }) t true in
+      λ x t. blame (record { book = a .book; ranks = a .ranks; trail = a .trail; exclusions = a .exclusions; best = Some x; state = a .state }) t true in
       let best = f ∙ ap (λ (q : Plan). champion m (a .best) (record { plan = q; cost = cost m (a .book .prices) q })) e in
       ap₂ whole best (g ∙ ap₂ (λ (x : Best C) (q : Plan). priceReason m (a .book) (x .cost) q) best e)
 

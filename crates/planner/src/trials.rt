@@ -21,7 +21,13 @@ use tables::Exclusions;
 
 /// Why a plan is excluded by its cost, as far as `decision` goes: it reaches the best's, for the other decisions of the
 /// kept price rules.
-fn try_cost<M: Measure>(book: &Book, best: M, costs: &mut [M; 257], decision: u8, plan: &[u8]) -> Option<(DecisionSet, bool)>
+fn try_cost<M: Measure>(
+    book: &Book,
+    best: M,
+    costs: &mut [M; 257],
+    decision: u8,
+    plan: &[u8],
+) -> Option<(DecisionSet, bool)>
     requires long { ⌜ length (now costs) ≡ 257 ⌝ }
     ensures long { λ _. ⌜ length (now (costs .exit)) ≡ 257 ⌝ }
     ensures value { λ r. ⌜ asExclusion r ≡ byCost meaning (bookOf (now (book .entry))) decision (fromBytes (now (plan .entry))) (Some best) ⌝ }
@@ -36,7 +42,13 @@ fn try_cost<M: Measure>(book: &Book, best: M, costs: &mut [M; 257], decision: u8
 }
 
 /// Why a plan is excluded, as far as `decision` goes: by the first forbid rule that it meets, else by its cost.
-fn try_plan<M: Measure>(book: &Book, best: Option<M>, costs: &mut [M; 257], decision: u8, plan: &[u8]) -> Option<(DecisionSet, bool)>
+fn try_plan<M: Measure>(
+    book: &Book,
+    best: Option<M>,
+    costs: &mut [M; 257],
+    decision: u8,
+    plan: &[u8],
+) -> Option<(DecisionSet, bool)>
     requires long { ⌜ length (now costs) ≡ 257 ⌝ }
     ensures long { λ _. ⌜ length (now (costs .exit)) ≡ 257 ⌝ }
     ensures value { λ r. ⌜ asExclusion r ≡ tryPlan meaning (bookOf (now (book .entry))) best decision (fromBytes (now (plan .entry))) ⌝ }
@@ -51,7 +63,15 @@ fn try_plan<M: Measure>(book: &Book, best: Option<M>, costs: &mut [M; 257], deci
 }
 
 /// Tests a value, in a plan with it in, unless it is excluded already.
-fn try_value<M: Measure>(book: &Book, best: Option<M>, costs: &mut [M; 257], exclusions: &mut Exclusions, decision: u8, value: u8, plan: &[u8])
+fn try_value<M: Measure>(
+    book: &Book,
+    best: Option<M>,
+    costs: &mut [M; 257],
+    exclusions: &mut Exclusions,
+    decision: u8,
+    value: u8,
+    plan: &[u8],
+)
     requires long { ⌜ length (now costs) ≡ 257 ⌝ }
     requires known { ⌜ decision < 64 ⌝ }
     requires low { ⌜ 1 ≤ value ⌝ }
@@ -68,7 +88,15 @@ fn try_value<M: Measure>(book: &Book, best: Option<M>, costs: &mut [M; 257], exc
 }
 
 /// Tests the values 1 to `size` of a decision that are not excluded.
-pub fn try_values<M: Measure>(book: &Book, best: Option<M>, costs: &mut [M; 257], exclusions: &mut Exclusions, plan: &[u8; 64], decision: u8, size: u8)
+pub fn try_values<M: Measure>(
+    book: &Book,
+    best: Option<M>,
+    costs: &mut [M; 257],
+    exclusions: &mut Exclusions,
+    plan: &[u8; 64],
+    decision: u8,
+    size: u8,
+)
     requires long { ⌜ length (now costs) ≡ 257 ⌝ }
     requires wide { ⌜ length (now plan) ≡ 64 ⌝ }
     requires known { ⌜ decision < 64 ⌝ }

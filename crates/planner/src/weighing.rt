@@ -35,7 +35,12 @@ fn better<M: Measure>(held: Option<Best<M>>, plan: Best<M>) -> Best<M>
 }
 
 /// The best that a complete trail's plan leaves, and the decisions of the price rules kept for the plan.
-pub fn weigh<M: Measure>(book: &Book, held: Option<Best<M>>, costs: &mut [M; 257], plan: [u8; 64]) -> (Best<M>, DecisionSet)
+pub fn weigh<M: Measure>(
+    book: &Book,
+    held: Option<Best<M>>,
+    costs: &mut [M; 257],
+    plan: [u8; 64],
+) -> (Best<M>, DecisionSet)
     requires long { ⌜ length (now costs) ≡ 257 ⌝ }
     requires wide { ⌜ length plan ≡ 64 ⌝ }
     ensures long { λ _. ⌜ length (now (costs .exit)) ≡ 257 ⌝ }
@@ -62,7 +67,11 @@ fn price_of<M: Measure>(book: &Book, costs: &mut [M; 257], plan: &[u8; 64]) -> M
 }
 
 /// The best, its cost worked out again.
-pub fn repriced_best<M: Measure>(book: &Book, costs: &mut [M; 257], held: Option<Best<M>>) -> Option<Best<M>>
+pub fn repriced_best<M: Measure>(
+    book: &Book,
+    costs: &mut [M; 257],
+    held: Option<Best<M>>,
+) -> Option<Best<M>>
     requires long { ⌜ length (now costs) ≡ 257 ⌝ }
     ensures long { λ _. ⌜ length (now (costs .exit)) ≡ 257 ⌝ }
     ensures value { λ r. ⌜ mapped bestOf r ≡ repriced meaning (bookOf (now (book .entry)) .prices) (mapped bestOf held) ⌝ }
@@ -98,7 +107,12 @@ fn judges_lawful(book: &Book, plan: &[u8; 64]) -> bool
     requires { ⌜ length (now plan) ≡ 64 ⌝ }
     ensures { λ r. ⌜ r ≡ isLawful (bookOf (now (book .entry))) (fromBytes (now (plan .entry))) ⌝ }
 {
-    is_lawful(book.decisions(), book.rows(Kind::Forbid), book.rows(Kind::Activate), plan)
+    is_lawful(
+        book.decisions(),
+        book.rows(Kind::Forbid),
+        book.rows(Kind::Activate),
+        plan,
+    )
 }
 
 /// The best, unless a forbid rule is met.

@@ -2,10 +2,9 @@
 use mathlib.Core.Bool.{Bool, true, false, cond, not, _||_}
 use mathlib.Core.Path.{_≡_, refl, sym, ap, ap₂, _∙_, fun-ext}
 use Prim.Native.Nat.{ℕ, zero, suc, min, _+_, _-_, _≤_, _<_}
-use mathlib.Core.Logic.{_⊎_, inl, inr}
+use mathlib.Core.Logic.{inl, inr}
 use native.Mathlib.Nat.{not-suc-le-zero}
 use native.Mathlib.Omega.{arith}
-use lib.ListN.{getD}
 use Rattle.std.proofs.shelf.Tests.{cases-eq, or-from, or-left, or-right}
 use Rattle.std.specs.declared.option.Option.{Option}
 use Rattle.std.specs.declared.option.Option.the-variants.{None, Some}
@@ -14,15 +13,15 @@ use Rattle.rules.specs.Refusals.{orElse, when}
 use Rattle.account.specs.Accounts.{Exclusion, either}
 use Rattle.account.specs.Calls.{countFree}
 use Rattle.account.specs.Steps.{anyRests, isFree, reasonOf, reasons, restsOn, smallestFree}
-use Rattle.sets.specs.Members.{values}
+use Rattle.sets.proofs.BoolLaws.{or-failed}
 use Rattle.sets.specs.Searches.{countOutside, orElse as orElseSets, smallestOutside, unless}
-use Rattle.tables.specs.Excluded.{cellOf, exclusionBy, exclusionsOf, noValue}
+use Rattle.tables.specs.Excluded.{exclusionsOf, isExcluded, storedAt}
 use Rattle.tables.specs.declared.exclusions.Exclusions.{Exclusions}
 use Rattle.tables.proofs.Cells.{exclusion-at}
 
 -- a value is free that is not in its decision's set
-pub free-at : (x : Exclusions) (d v : ℕ) → d < 64 → isFree (exclusionsOf x d v) ≡ not (values (getD (x .excluded) d noValue) v)
-free-at x d v h = ap isFree (exclusion-at x d v h) ∙ at (values (getD (x .excluded) d noValue) v) (exclusionBy (getD (x .reasons) (cellOf d v) 0) (values (getD (x .resting) d noValue) v))
+pub free-at : (x : Exclusions) (d v : ℕ) → d < 64 → isFree (exclusionsOf x d v) ≡ not (isExcluded x d v)
+free-at x d v h = ap isFree (exclusion-at x d v h) ∙ at (isExcluded x d v) (storedAt x d v)
   where
     at : (b : Bool) (e : Exclusion) → isFree (when b e) ≡ not b
     at true e = refl
@@ -71,11 +70,7 @@ module _ (ex : ℕ → Option Exclusion) (v : ℕ) (low : 1 ≤ v) where
   -- a free value adds none
   pub reasons-none : (all : Set) → all ≡ reasons ex (v - 1) → None ≡ ex v → all ≡ reasons ex (v + 1 - 1)
   reasons-none all before is =
-      fun-ext (λ (x : ℕ). or-false (all x)) ∙ ap₂ (λ (s : Set) (o : Option Exclusion). either s (reasonOf o)) before is ∙ sym reasons-more
-    where
-      or-false : (b : Bool) → b ≡ (b || false)
-      or-false true = refl
-      or-false false = refl
+      sym (fun-ext (λ (x : ℕ). or-failed (all x) false refl)) ∙ ap₂ (λ (s : Set) (o : Option Exclusion). either s (reasonOf o)) before is ∙ sym reasons-more
 
   -- a value that does not rest leaves it at none
   pub rests-none : anyRests ex (v - 1) ≡ false → restsOn (ex v) ≡ false → anyRests ex (v + 1 - 1) ≡ false
@@ -88,7 +83,7 @@ module _ (ex : ℕ → Option Exclusion) (v : ℕ) (low : 1 ≤ v) where
 pub rests-found : (ex : ℕ → Option Exclusion) (n v : ℕ) → 1 ≤ v → v ≤ n → restsOn (ex v) ≡ true → true ≡ anyRests ex n
 rests-found ex zero v low high h = absurd (not-suc-le-zero (let z : 1 ≤ 0 = omega arith in z))
 rests-found ex (suc n) v low high h =
-    elim (cases-eq v (suc n))
-    [ inl same ↦ sym (or-right (anyRests ex n) (restsOn (ex (suc n))) (ap (λ (k : ℕ). restsOn (ex k)) (sym same) ∙ h))
-    | inr other ↦ sym (or-left (anyRests ex n) (restsOn (ex (suc n))) (sym (rests-found ex n v low (omega arith) h)))
+    elim (cases-eq v (suc n)) [
+      | inl same ↦ sym (or-right (anyRests ex n) (restsOn (ex (suc n))) (ap (λ (k : ℕ). restsOn (ex k)) (sym same) ∙ h))
+      | inr other ↦ sym (or-left (anyRests ex n) (restsOn (ex (suc n))) (sym (rests-found ex n v low (omega arith) h)))
     ]

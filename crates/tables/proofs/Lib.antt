@@ -1,6 +1,7 @@
 pub mod Cells
 pub mod Entering
 pub mod Frees
+pub mod Listed
 pub mod Marks
 pub mod Parting
 pub mod RowEdits

@@ -1,15 +1,15 @@
 -- Sets with one value marked or not, and the set of the first decisions.
 use mathlib.Core.Bool.{Bool, true, false, cond, not, _&&_, _||_}
-use mathlib.Core.Logic.{_⊎_, inl, inr}
+use mathlib.Core.Logic.{inl, inr}
 use mathlib.Core.Path.{_≡_, refl, sym, ap, ap₂, _∙_, fun-ext}
-use Prim.Native.Nat.{ℕ, zero, suc, _+_, _-_, _*_, _/_, _%_, _^_, _≤_, _<_}
+use Prim.Native.Nat.{ℕ, zero, suc, _-_, _*_, _/_, _%_, _^_, _≤_, _<_}
 use native.Mathlib.Nat.{not-suc-le-zero, pow-le-pow-right}
 use native.Mathlib.Omega.{arith}
 use lib.Bits.{bitAnd}
 use lib.Dec.{eqb, leb, ltb, eqb·suc-suc}
 use lib.Pow.{pow-pos}
 use Rattle.std.proofs.shelf.Bits.{div-below, one-shl}
-use Rattle.std.proofs.shelf.Tests.{and-from, and-left, cases-lt, le-leb, lt-ltb, le-ltb}
+use Rattle.std.proofs.shelf.Tests.{and-from, and-left, both-ways, cases-lt, le-leb, lt-ltb, le-ltb}
 use Rattle.sets.proofs.BitLaws.{bit-complement, bit-digit, bit-of-zero, bit-remove}
 use Rattle.sets.proofs.Decisions.{members-are}
 use Rattle.sets.proofs.Values.{no-value, no-value-zero, value-bit, values-are}
@@ -23,7 +23,7 @@ one-less k (suc v) h = ap (eqb k) (omega arith) ∙ sym (eqb·suc-suc k v)
 
 -- the set with one bit removed
 pub values-without : (s : ValueSet) (v : ℕ) → 1 ≤ v → v ≤ 16
-  → values (record { bits = bitAnd (s .bits) (2 ^ 16 - 1 - 1 * 2 ^ (v - 1) % 2 ^ 16) }) ≡ (λ x. values s x && not (eqb x v))
+    → values (record { bits = bitAnd (s .bits) (2 ^ 16 - 1 - 1 * 2 ^ (v - 1) % 2 ^ 16) }) ≡ (λ x. values s x && not (eqb x v))
 values-without s v low high =
     values-are (record { bits = bitAnd (s .bits) (2 ^ 16 - 1 - 1 * 2 ^ (v - 1) % 2 ^ 16) }) (λ x. values s x && not (eqb x v))
     (λ k h.
@@ -55,17 +55,18 @@ marked-out s r v e = e ∙ fun-ext (λ (x : ℕ). at (values s x) (eqb x v))
 
 -- only 1 to 16 can be in a set of values
 pub value-known : (s : ValueSet) (v : ℕ) → values s v ≡ true → (1 ≤ v) × (v ≤ 16)
-value-known s zero e = let z : _≡_ {A = Bool} true false = sym e ∙ no-value-zero s in let y : _≡_ {A = ℕ} 0 1 = cc in absurd (omega arith)
-value-known s (suc v) e = elim (cases-lt 16 (suc v)) [ inl h ↦ (let z : _≡_ {A = Bool} true false = sym e ∙ no-value s (suc v) h in let y : _≡_ {A = ℕ} 0 1 = cc in absurd (omega arith)) | inr h ↦ (omega arith, h) ]
+value-known s zero e = absurd (both-ways (values s 0) (no-value-zero s) e)
+value-known s (suc v) e =
+    elim (cases-lt 16 (suc v)) [ inl h ↦ absurd (both-ways (values s (suc v)) (no-value s (suc v) h) e) | inr h ↦ (omega arith, h) ]
 
 -- the bits of a number one less than a power
 bit-first : (c k : ℕ) → bit (2 ^ c - 1) k ≡ ltb k c
 bit-first c k =
-    elim (cases-lt k c)
-    [ inl h ↦ (ap (λ (n : ℕ). bit n k) (omega arith) ∙ bit-complement c 0 k (pow-pos c) h ∙ ap not (bit-of-zero k) ∙ sym (lt-ltb k c h))
-    | inr h ↦
-      (let low : (2 ^ c - 1) / 2 ^ k < 1 = div-below (2 ^ c - 1) (2 ^ k) 1 (pow-pos k) (omega (arith, pow-pos c, pow-le-pow-right {n = 2} (omega arith) h)) in
-      bit-digit (2 ^ c - 1) k 0 (omega arith) ∙ sym (le-ltb k c h))
+    elim (cases-lt k c) [
+      | inl h ↦ (ap (λ (n : ℕ). bit n k) (omega arith) ∙ bit-complement c 0 k (pow-pos c) h ∙ ap not (bit-of-zero k) ∙ sym (lt-ltb k c h))
+      | inr h ↦
+          (let low : (2 ^ c - 1) / 2 ^ k < 1 = div-below (2 ^ c - 1) (2 ^ k) 1 (pow-pos k) (omega (arith, pow-pos c, pow-le-pow-right {n = 2} (omega arith) h)) in
+          bit-digit (2 ^ c - 1) k 0 (omega arith) ∙ sym (le-ltb k c h))
     ]
 
 -- the set of the first c decisions

@@ -1,14 +1,13 @@
 -- What a retreat leaves of a trail whose entries are proper: what left is off the plan, and the rest stays as it was.
-use mathlib.Core.Bool.{Bool, true, false, cond, _&&_, _||_}
+use mathlib.Core.Bool.{Bool, true, false, cond, _||_}
 use mathlib.Core.List.{List, [], _∷_}
 use mathlib.Core.Logic.{⊎-elim}
 use mathlib.Core.Path.{_≡_, refl, sym, ap, _∙_}
-use Prim.Native.Nat.{ℕ, zero, suc, _+_, _≤_, _<_}
+use Prim.Native.Nat.{ℕ, zero, suc, _+_, _<_}
 use native.Mathlib.Nat.{add-zero, add-suc}
 use native.Mathlib.Omega.{arith}
 use lib.Dec.{eqb}
 use lib.ListN.{getD}
-use Rattle.std.specs.declared.option.Option.{Option}
 use Rattle.std.specs.declared.option.Option.the-variants.{None, Some}
 use Rattle.std.specs.shelf.Lists.{All}
 use Rattle.std.proofs.shelf.Tests.{cases-bool, cases-eq, cond-both, cond-true, cond-false, eq-eqb, ne-eqb, eqb-true, or-cases, false≢true}
@@ -21,6 +20,7 @@ use Rattle.tables.specs.Retreats.{followed, swept, Latest}
 use Rattle.tables.specs.declared.entry.Entry.{Entry}
 use Rattle.tables.proofs.Entering.{Enters, proper-parts, proper-more}
 
+-- what a retreat r has left of a trail es
 pub record Parted (es : List Choice) (r : Parting) : Type 0 where
   pub known : All (λ (x : ℕ). x < 64) (r .left)
   -- what left was on the trail
@@ -28,8 +28,8 @@ pub record Parted (es : List Choice) (r : Parting) : Type 0 where
   pub planned : (x : ℕ) → chosen (r .stays) x ≡ cond (inList x (r .left)) 0 (chosen es x)
   pub properly : proper (r .stays) ≡ true
 
--- nobody has left yet, and the newest entry is the culprit
-abbrev pub begun : Choice → List Choice → Parting
+-- the newest entry is the culprit, and alone has left
+abbrev begun : Choice → List Choice → Parting
 begun e es = record { culprit = e; left = e .decision ∷ []; stays = es }
 
 module _ (e : Choice) (es : List Choice) (h : Enters e es) where
@@ -39,9 +39,9 @@ module _ (e : Choice) (es : List Choice) (h : Enters e es) where
         known = (h .known, tt);
         were = λ x t. ⊎-elim (λ (b : eqb x (e .decision) ≡ true). rw (chosen-here e es x (eqb-true x (e .decision) b)) (h .some)) (λ (b : false ≡ true). absurd (false≢true b)) (or-cases (eqb x (e .decision)) false t);
         planned =
-          λ x. ⊎-elim (λ (q : x ≡ e .decision). ap (chosen es) q ∙ h .idle ∙ sym (cond-true (eqb x (e .decision) || false) 0 (chosen (e ∷ es) x) (ap (λ (b : Bool). b || false) (eq-eqb x (e .decision) q))))
-          (λ (q : x ≡ e .decision → ⊥). sym (cond-false (eqb x (e .decision) || false) 0 (chosen (e ∷ es) x) (ap (λ (b : Bool). b || false) (ne-eqb x (e .decision) q)) ∙ chosen-other e es x q))
-          (cases-eq x (e .decision));
+            λ x. ⊎-elim (λ (q : x ≡ e .decision). ap (chosen es) q ∙ h .idle ∙ sym (cond-true (eqb x (e .decision) || false) 0 (chosen (e ∷ es) x) (ap (λ (b : Bool). b || false) (eq-eqb x (e .decision) q))))
+            (λ (q : x ≡ e .decision → ⊥). sym (cond-false (eqb x (e .decision) || false) 0 (chosen (e ∷ es) x) (ap (λ (b : Bool). b || false) (ne-eqb x (e .decision) q)) ∙ chosen-other e es x q))
+            (cases-eq x (e .decision));
         properly = p;
       }
 
@@ -62,9 +62,9 @@ module _ (e : Choice) (es : List Choice) (h : Enters e es) where
           known = (h .known, l .known);
           were = λ x t. ⊎-elim (λ (b : eqb x (e .decision) ≡ true). rw (chosen-here e es x (eqb-true x (e .decision) b)) (h .some)) (λ (b : inList x (r .left) ≡ true). still x (l .were x b)) (or-cases (eqb x (e .decision)) (inList x (r .left)) t);
           planned =
-            λ x. ⊎-elim (λ (q : x ≡ e .decision). ap (chosen (r .stays)) q ∙ idle ∙ sym (cond-true (eqb x (e .decision) || inList x (r .left)) 0 (chosen (e ∷ es) x) (ap (λ (b : Bool). b || inList x (r .left)) (eq-eqb x (e .decision) q))))
-            (λ (q : x ≡ e .decision → ⊥). l .planned x ∙ ap (λ (b : Bool). cond (b || inList x (r .left)) 0 (chosen es x)) (sym (ne-eqb x (e .decision) q)) ∙ ap (λ (y : ℕ). cond (eqb x (e .decision) || inList x (r .left)) 0 y) (sym (chosen-other e es x q)))
-            (cases-eq x (e .decision));
+              λ x. ⊎-elim (λ (q : x ≡ e .decision). ap (chosen (r .stays)) q ∙ idle ∙ sym (cond-true (eqb x (e .decision) || inList x (r .left)) 0 (chosen (e ∷ es) x) (ap (λ (b : Bool). b || inList x (r .left)) (eq-eqb x (e .decision) q))))
+              (λ (q : x ≡ e .decision → ⊥). l .planned x ∙ ap (λ (b : Bool). cond (b || inList x (r .left)) 0 (chosen es x)) (sym (ne-eqb x (e .decision) q)) ∙ ap (λ (y : ℕ). cond (eqb x (e .decision) || inList x (r .left)) 0 y) (sym (chosen-other e es x q)))
+              (cases-eq x (e .decision));
           properly = l .properly;
         }
 
@@ -74,9 +74,9 @@ module _ (e : Choice) (es : List Choice) (h : Enters e es) where
           known = l .known;
           were = λ x t. still x (l .were x t);
           planned =
-            λ x. ⊎-elim (λ (q : x ≡ e .decision). chosen-here e (r .stays) x q ∙ sym (cond-false (inList x (r .left)) 0 (chosen (e ∷ es) x) (ap (λ (y : ℕ). inList y (r .left)) q ∙ apart) ∙ chosen-here e es x q))
-            (λ (q : x ≡ e .decision → ⊥). chosen-other e (r .stays) x q ∙ l .planned x ∙ ap (λ (y : ℕ). cond (inList x (r .left)) 0 y) (sym (chosen-other e es x q)))
-            (cases-eq x (e .decision));
+              λ x. ⊎-elim (λ (q : x ≡ e .decision). chosen-here e (r .stays) x q ∙ sym (cond-false (inList x (r .left)) 0 (chosen (e ∷ es) x) (ap (λ (y : ℕ). inList y (r .left)) q ∙ apart) ∙ chosen-here e es x q))
+              (λ (q : x ≡ e .decision → ⊥). chosen-other e (r .stays) x q ∙ l .planned x ∙ ap (λ (y : ℕ). cond (inList x (r .left)) 0 y) (sym (chosen-other e es x q)))
+              (cases-eq x (e .decision));
           properly = proper-more e (r .stays) (record { known = h .known; some = h .some; few = h .few; idle = idle }) (l .properly);
         }
 

@@ -1,7 +1,7 @@
 -- The rows in use after one is put behind them or taken out.
-use mathlib.Core.Bool.{Bool, true, _&&_}
+use mathlib.Core.Bool.{true}
 use mathlib.Core.List.{List, [], _∷_, _++_}
-use mathlib.Core.Path.{_≡_, refl, sym, ap, ap₂, _∙_}
+use mathlib.Core.Path.{_≡_, refl, sym, ap₂, _∙_}
 use Prim.Native.Nat.{ℕ, zero, suc, _+_, _-_, _≤_, _<_}
 use native.Mathlib.Numerals.{add-one}
 use native.Mathlib.Omega.{arith}
@@ -39,4 +39,4 @@ closed-gap {X} xs ys n i h l e =
     ap₂ (λ (k : ℕ) (zs : List X). take k zs) (sym front) e
     ∙ take-paste xs i (drop (i + 1) xs) rest (omega arith) (simp length-drop (omega arith))
     ∙ ap₂ (λ a b. a ++ b) (sym (take-take i n xs (omega arith)))
-        (sym (drop-take (i + 1) rest xs) ∙ ap₂ (λ (k m : ℕ). drop k (take m xs)) (add-one i) whole)
+    (sym (drop-take (i + 1) rest xs) ∙ ap₂ (λ (k m : ℕ). drop k (take m xs)) (add-one i) whole)

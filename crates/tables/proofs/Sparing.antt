@@ -4,7 +4,7 @@ use mathlib.Core.Logic.{_⊎_, inl, inr}
 use mathlib.Core.Path.{_≡_, refl, sym, ap, ap₂, _∙_, fun-ext}
 use Prim.Native.Nat.{ℕ, zero, suc, _+_, _≤_, _<_}
 use native.Mathlib.Omega.{arith}
-use lib.Dec.{eqb, leb, ltb}
+use lib.Dec.{eqb, ltb}
 use lib.ListN.{length, getD, set}
 use lib.Seq.{getD-set-same, getD-set-other}
 use Rattle.std.proofs.shelf.Tests.{and-right, cases-eq, cases-lt, cases-order, eq-eqb, le-ltb, lt-ltb, ne-eqb}
@@ -15,15 +15,15 @@ use Rattle.rules.specs.Refusals.{when}
 use Rattle.account.specs.Accounts.{Exclusion, emptyBelow}
 use Rattle.account.specs.Changes.{keepIf}
 use Rattle.account.specs.Steps.{isFree}
+use Rattle.sets.proofs.BoolLaws.{and-held, or-failed}
 use Rattle.sets.proofs.SearchLaws.{some-below-same}
 use Rattle.sets.proofs.Values.{no-value, no-value-zero, values-empty}
-use Rattle.sets.specs.Members.{members, values}
+use Rattle.sets.specs.Members.{values}
 use Rattle.sets.specs.Searches.{someBelow}
 use Rattle.sets.specs.declared.value_set.ValueSet.{ValueSet}
-use Rattle.tables.specs.Excluded.{cellOf, exclusionBy, exclusionsOf, noValue, spared, unlessMeets}
+use Rattle.tables.specs.Excluded.{exclusionsOf, isExcluded, noValue, spared, storedAt}
 use Rattle.tables.specs.declared.exclusions.Exclusions.{Exclusions}
-use Rattle.tables.proofs.Cells.{exclusion-at, not-excluded, past-excluded}
-use Rattle.tables.proofs.Marks.{marked-in}
+use Rattle.tables.proofs.Cells.{not-excluded, past-excluded}
 
 -- whether a value is excluded and stays
 abbrev pub stays : (Exclusion → Bool) → Exclusions → ℕ → ℕ → Bool
@@ -31,36 +31,13 @@ stays keep x d v = not (isFree (keepIf keep (exclusionsOf x d v)))
 
 -- a set that is filled value by value with those that a test holds of
 module _ (t : ℕ → Bool) where
+  -- no value is through
   pub filled-none : t 0 ≡ false → (s : ValueSet) → s .bits ≡ 0 → values s ≡ (λ x. ltb x 1 && t x)
   filled-none none s e = ap (λ (n : ℕ). values (record { bits = n })) e ∙ values-empty ∙ fun-ext at
     where
       at : (x : ℕ) → false ≡ (ltb x 1 && t x)
       at zero = sym none
       at (suc x) = sym (ap (λ (b : Bool). b && t (suc x)) (le-ltb (suc x) 1 (omega arith)))
-
-  next : (v x : ℕ) → (cond (eqb x v) (t v) (ltb x v && t x)) ≡ (ltb x (v + 1) && t x)
-  next v x =
-      elim (cases-order x v)
-      [ inl same ↦ rw same (ap (λ (b : Bool). cond b (t v) (ltb v v && t v)) (eq-eqb v v refl) ∙ sym (ap (λ (b : Bool). b && t v) (lt-ltb v (v + 1) (omega arith))))
-      | inr (inl h) ↦
-        (ap₂ (λ (b a : Bool). cond b (t v) (a && t x)) (ne-eqb x v (λ (e : x ≡ v). omega arith)) (lt-ltb x v h) ∙ sym (ap (λ (b : Bool). b && t x) (lt-ltb x (v + 1) (omega arith))))
-      | inr (inr h) ↦
-        (ap₂ (λ (b a : Bool). cond b (t v) (a && t x)) (ne-eqb x v (λ (e : x ≡ v). omega arith)) (le-ltb x v (omega arith)) ∙ sym (ap (λ (b : Bool). b && t x) (le-ltb x (v + 1) (omega arith))))
-      ]
-
-  -- the test holds of the next value, which goes in
-  pub filled-with : (s r : ValueSet) (v : ℕ) → 1 ≤ v → v ≤ 16 → t v ≡ true → values s ≡ (λ x. ltb x v && t x)
-    → values r ≡ (λ x. values s x || (eqb x v && (leb 1 v && leb v 16))) → values r ≡ (λ x. ltb x (v + 1) && t x)
-  filled-with s r v low high holds before new =
-      marked-in s r v low high new ∙ ap₂ {C = ℕ → Bool} (λ (b : Bool) (f : ℕ → Bool) (x : ℕ). cond (eqb x v) b (f x)) (sym holds) before ∙ fun-ext (next v)
-
-  -- the test fails of the next value
-  pub filled-without : (s : ValueSet) (v : ℕ) → t v ≡ false → values s ≡ (λ x. ltb x v && t x) → values s ≡ (λ x. ltb x (v + 1) && t x)
-  filled-without s v fails before = before ∙ fun-ext (λ (x : ℕ). at x (cases-eq x v) ∙ next v x)
-    where
-      at : (x : ℕ) → (x ≡ v) ⊎ (x ≡ v → ⊥) → (ltb x v && t x) ≡ cond (eqb x v) (t v) (ltb x v && t x)
-      at x (inl same) = rw same (ap (λ (b : Bool). b && t v) (le-ltb v v (omega arith)) ∙ sym (ap₂ (λ (b a : Bool). cond b a (ltb v v && t v)) (eq-eqb v v refl) fails))
-      at x (inr other) = sym (ap (λ (b : Bool). cond b (t v) (ltb x v && t x)) (ne-eqb x v other))
 
   -- all values are through
   pub filled-all : (s : ValueSet) (v : ℕ) → 17 ≤ v → ((x : ℕ) → 16 < x → t x ≡ false) → values s ≡ (λ x. ltb x v && t x) → values s ≡ t
@@ -71,7 +48,7 @@ module _ (t : ℕ → Bool) where
       at x (inr l) = ap (λ (b : Bool). b && t x) (le-ltb x v l) ∙ sym (past x (omega arith))
 
 module _ (keep : Exclusion → Bool) (x : Exclusions) (d : ℕ) where
-  not-staying : (v : ℕ) → values (getD (x .excluded) d noValue) v ≡ false → stays keep x d v ≡ false
+  not-staying : (v : ℕ) → isExcluded x d v ≡ false → stays keep x d v ≡ false
   not-staying v e = ap (λ (o : Option Exclusion). not (isFree (keepIf keep o))) (not-excluded x d v e)
 
   -- 0 is no value
@@ -84,18 +61,17 @@ module _ (keep : Exclusion → Bool) (x : Exclusions) (d : ℕ) where
 
   -- the values of a decision that stay, in place of its excluded ones
   pub spared-at : (s : ValueSet) → d < 64 → d < length (x .excluded) → values s ≡ stays keep x d
-    → (y w : ℕ) → exclusionsOf (record { excluded = set (x .excluded) d s; resting = x .resting; reasons = x .reasons }) y w ≡ cond (eqb y d) (keepIf keep (exclusionsOf x y w)) (exclusionsOf x y w)
+      → (y w : ℕ) → exclusionsOf (record { excluded = set (x .excluded) d s; resting = x .resting; reasons = x .reasons }) y w ≡ cond (eqb y d) (keepIf keep (exclusionsOf x y w)) (exclusionsOf x y w)
   unfolding exclusionsOf
   spared-at s h l e y w =
-      elim (cases-eq y d)
-      [ inl same ↦
-        rw same (ap₂ (λ (b : Bool) (z : ValueSet). when (b && values z w) (exclusionBy (getD (x .reasons) (cellOf d w) 0) (values (getD (x .resting) d noValue) w))) (lt-ltb d 64 h) (getD-set-same (x .excluded) d s noValue l)
-        ∙ ap (λ (f : ℕ → Bool). when (f w) (exclusionBy (getD (x .reasons) (cellOf d w) 0) (values (getD (x .resting) d noValue) w))) e
-        ∙ kept-cell (ltb d 64 && values (getD (x .excluded) d noValue) w) (exclusionBy (getD (x .reasons) (cellOf d w) 0) (values (getD (x .resting) d noValue) w))
-        ∙ sym (ap (λ (b : Bool). cond b (keepIf keep (exclusionsOf x d w)) (exclusionsOf x d w)) (eq-eqb d d refl)))
-      | inr other ↦
-        (ap (λ (z : ValueSet). when (ltb y 64 && values z w) (exclusionBy (getD (x .reasons) (cellOf y w) 0) (values (getD (x .resting) y noValue) w))) (getD-set-other (x .excluded) d y s noValue other)
-        ∙ sym (ap (λ (b : Bool). cond b (keepIf keep (exclusionsOf x y w)) (exclusionsOf x y w)) (ne-eqb y d other)))
+      elim (cases-eq y d) [
+        | inl same ↦
+            rw same (ap₂ (λ (b : Bool) (z : ValueSet). when (b && values z w) (storedAt x d w)) (lt-ltb d 64 h) (getD-set-same (x .excluded) d s noValue l)
+            ∙ ap (λ (f : ℕ → Bool). when (f w) (storedAt x d w)) e ∙ kept-cell (ltb d 64 && isExcluded x d w) (storedAt x d w)
+            ∙ sym (ap (λ (b : Bool). cond b (keepIf keep (exclusionsOf x d w)) (exclusionsOf x d w)) (eq-eqb d d refl)))
+        | inr other ↦
+            (ap (λ (z : ValueSet). when (ltb y 64 && values z w) (storedAt x y w)) (getD-set-other (x .excluded) d y s noValue other)
+            ∙ sym (ap (λ (b : Bool). cond b (keepIf keep (exclusionsOf x y w)) (exclusionsOf x y w)) (ne-eqb y d other)))
       ]
     where
       kept-cell : (b : Bool) (e : Exclusion) → when (not (isFree (keepIf keep (when b e)))) e ≡ keepIf keep (when b e)
@@ -109,9 +85,9 @@ module _ (keep : Exclusion → Bool) (x : Exclusions) (d : ℕ) where
   -- a decision with no excluded value has nothing to spare
   pub spared-none : getD (x .excluded) d noValue .bits ≡ 0 → (y w : ℕ) → exclusionsOf x y w ≡ cond (eqb y d) (keepIf keep (exclusionsOf x y w)) (exclusionsOf x y w)
   spared-none e y w =
-      elim (cases-eq y d)
-      [ inl same ↦ rw same (none ∙ sym (ap₂ (λ (b : Bool) (o : Option Exclusion). cond b (keepIf keep o) o) (eq-eqb d d refl) none))
-      | inr other ↦ sym (ap (λ (b : Bool). cond b (keepIf keep (exclusionsOf x y w)) (exclusionsOf x y w)) (ne-eqb y d other))
+      elim (cases-eq y d) [
+        | inl same ↦ rw same (none ∙ sym (ap₂ (λ (b : Bool) (o : Option Exclusion). cond b (keepIf keep o) o) (eq-eqb d d refl) none))
+        | inr other ↦ sym (ap (λ (b : Bool). cond b (keepIf keep (exclusionsOf x y w)) (exclusionsOf x y w)) (ne-eqb y d other))
       ]
     where
       none : exclusionsOf x d w ≡ None
@@ -123,22 +99,21 @@ Through keep start now d = now ≡ (λ y w. cond (ltb y d) (keepIf keep (start y
 
 -- one more decision is through
 pub through-more : (keep : Exclusion → Bool) (start now later : ℕ → ℕ → Option Exclusion) (d : ℕ) → Through keep start now d
-  → ((y w : ℕ) → later y w ≡ cond (eqb y d) (keepIf keep (now y w)) (now y w)) → Through keep start later (d + 1)
+    → ((y w : ℕ) → later y w ≡ cond (eqb y d) (keepIf keep (now y w)) (now y w)) → Through keep start later (d + 1)
 through-more keep start now later d before one =
-    fun-ext (λ (y : ℕ). fun-ext (λ (w : ℕ). one y w ∙ ap (λ (f : ℕ → ℕ → Option Exclusion). cond (eqb y d) (keepIf keep (f y w)) (f y w)) before ∙ at y w (cases-order y d)))
+    fun-ext (λ (y : ℕ). fun-ext (λ (w : ℕ). one y w ∙ ap (λ (f : ℕ → ℕ → Option Exclusion). cond (eqb y d) (keepIf keep (f y w)) (f y w)) before ∙ at y (start y w) (cases-order y d)))
   where
-    at : (y w : ℕ) → (y ≡ d) ⊎ ((y < d) ⊎ (d < y))
-      → cond (eqb y d) (keepIf keep (cond (ltb y d) (keepIf keep (start y w)) (start y w))) (cond (ltb y d) (keepIf keep (start y w)) (start y w))
-      ≡ cond (ltb y (d + 1)) (keepIf keep (start y w)) (start y w)
-    at y w (inl same) =
-        ap₂ (λ (a b : Bool). cond a (keepIf keep (cond b (keepIf keep (start y w)) (start y w))) (cond b (keepIf keep (start y w)) (start y w))) (eq-eqb y d same) (le-ltb y d (omega arith))
-        ∙ sym (ap (λ (b : Bool). cond b (keepIf keep (start y w)) (start y w)) (lt-ltb y (d + 1) (omega arith)))
-    at y w (inr (inl h)) =
-        ap₂ (λ (a b : Bool). cond a (keepIf keep (cond b (keepIf keep (start y w)) (start y w))) (cond b (keepIf keep (start y w)) (start y w))) (ne-eqb y d (λ (e : y ≡ d). omega arith)) (lt-ltb y d h)
-        ∙ sym (ap (λ (b : Bool). cond b (keepIf keep (start y w)) (start y w)) (lt-ltb y (d + 1) (omega arith)))
-    at y w (inr (inr h)) =
-        ap₂ (λ (a b : Bool). cond a (keepIf keep (cond b (keepIf keep (start y w)) (start y w))) (cond b (keepIf keep (start y w)) (start y w))) (ne-eqb y d (λ (e : y ≡ d). omega arith)) (le-ltb y d (omega arith))
-        ∙ sym (ap (λ (b : Bool). cond b (keepIf keep (start y w)) (start y w)) (le-ltb y (d + 1) (omega arith)))
+    pass : Bool → Option Exclusion → Option Exclusion
+    pass b o = cond b (keepIf keep o) o
+
+    at : (y : ℕ) (o : Option Exclusion) → (y ≡ d) ⊎ ((y < d) ⊎ (d < y)) → pass (eqb y d) (pass (ltb y d) o) ≡ pass (ltb y (d + 1)) o
+    at y o (inl same) =
+        ap₂ (λ (a b : Bool). pass a (pass b o)) (eq-eqb y d same) (le-ltb y d (omega arith)) ∙ sym (ap (λ (b : Bool). pass b o) (lt-ltb y (d + 1) (omega arith)))
+    at y o (inr (inl h)) =
+        ap₂ (λ (a b : Bool). pass a (pass b o)) (ne-eqb y d (λ (e : y ≡ d). omega arith)) (lt-ltb y d h) ∙ sym (ap (λ (b : Bool). pass b o) (lt-ltb y (d + 1) (omega arith)))
+    at y o (inr (inr h)) =
+        ap₂ (λ (a b : Bool). pass a (pass b o)) (ne-eqb y d (λ (e : y ≡ d). omega arith)) (le-ltb y d (omega arith))
+        ∙ sym (ap (λ (b : Bool). pass b o) (le-ltb y (d + 1) (omega arith)))
 
 -- all decisions are through
 pub through-all : (keep : Exclusion → Bool) (x : Exclusions) (now : ℕ → ℕ → Option Exclusion) (d : ℕ) → 64 ≤ d → Through keep (exclusionsOf x) now d → now ≡ (λ y w. keepIf keep (exclusionsOf x y w))
@@ -167,33 +142,16 @@ pub none-of-first : (s : Set) (c n : ℕ) → c ≤ n → not (someBelow (λ x. 
 unfolding someBelow
 none-of-first s c zero h = let e : 0 ≡ c = omega arith in ap (emptyBelow s) e
 none-of-first s c (suc n) h =
-    elim (cases-eq c (suc n))
-    [ inl same ↦
-      (ap not (some-below-same (λ x. s x && ltb x c) s (suc n) (λ k l. ap (λ (b : Bool). s k && b) (lt-ltb k c (omega arith)) ∙ and-true (s k))) ∙ some-or-empty s (suc n)
-      ∙ ap (emptyBelow s) (sym same))
-    | inr other ↦ (ap (λ (b : Bool). not (someBelow (λ x. s x && ltb x c) n || (s n && b))) (le-ltb n c (omega arith)) ∙ or-none (someBelow (λ x. s x && ltb x c) n) (s n) ∙ none-of-first s c n (omega arith))
+    elim (cases-eq c (suc n)) [
+      | inl same ↦
+          (ap not (some-below-same (λ x. s x && ltb x c) s (suc n) (λ k l. and-held (s k) (ltb k c) (lt-ltb k c (omega arith)))) ∙ some-or-empty s (suc n) ∙ ap (emptyBelow s) (sym same))
+      | inr other ↦
+          (ap not (or-failed (someBelow (λ x. s x && ltb x c) n) (s n && ltb n c) (and-right (s n) (ltb n c) (le-ltb n c (omega arith)))) ∙ none-of-first s c n (omega arith))
     ]
-  where
-    and-true : (b : Bool) → (b && true) ≡ b
-    and-true true = refl
-    and-true false = refl
-    or-none : (a b : Bool) → not (a || (b && false)) ≡ not a
-    or-none true b = refl
-    or-none false true = refl
-    or-none false false = refl
-
--- what stays on forgetting a set is what does not meet it
-pub forget-is : (s : Set) (o : Option Exclusion) → keepIf (spared s true) o ≡ unlessMeets s o
-forget-is s None = refl
-forget-is s (Some e) = at (someBelow (λ x. e .reason x && s x) 64)
-  where
-    at : (b : Bool) → cond (not b && true) (Some e) None ≡ cond b None (Some e)
-    at true = refl
-    at false = refl
 
 -- what stays with no reason among the first decisions is what has an empty reason
 pub keep-empty-is : (s : Set) (c : ℕ) (resting : Bool) → c ≤ 64 → s ≡ (λ x. ltb x c) → (o : Option Exclusion)
-  → keepIf (spared s resting) o ≡ keepIf (λ e. emptyBelow (e .reason) c && (resting || not (e .rests))) o
+    → keepIf (spared s resting) o ≡ keepIf (λ e. emptyBelow (e .reason) c && (resting || not (e .rests))) o
 keep-empty-is s c resting h first None = refl
 keep-empty-is s c resting h first (Some e) =
     ap (λ (b : Bool). cond (b && (resting || not (e .rests))) (Some e) None)

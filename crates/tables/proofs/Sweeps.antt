@@ -3,68 +3,26 @@ use mathlib.Core.Bool.{Bool, true, false, cond, _&&_, _||_}
 use mathlib.Core.List.{List, [], _∷_}
 use mathlib.Core.Logic.{⊎-elim}
 use mathlib.Core.Path.{_≡_, refl, sym, ap, subst, _∙_, fun-ext}
-use Prim.Native.Nat.{ℕ, zero, suc, _+_, _-_, _≤_, _<_}
+use Prim.Native.Nat.{ℕ, suc, _+_, _-_, _<_}
 use native.Mathlib.Omega.{arith}
 use lib.Dec.{eqb, ltb}
 use lib.ListN.{length, getD, set}
 use Rattle.std.specs.declared.option.Option.the-variants.{Some}
 use Rattle.std.specs.shelf.Lists.{All}
 use Rattle.std.proofs.shelf.Lists.{getD-set-same, getD-set-other, length-set}
-use Rattle.std.proofs.shelf.Tests.{and-parts, and-from, cases-bool, cases-eq, cond-true, cond-false, eq-eqb, ne-eqb, eqb-true, lt-ltb, or-cases, or-left, or-right, false≢true}
+use Rattle.std.proofs.shelf.Tests.{cases-eq, cond-true, cond-false, eq-eqb, ne-eqb, or-left}
 use Rattle.rules.specs.Conditions.{Plan, fromBytes}
 use Rattle.rules.specs.Plans.{Set}
 use Rattle.account.specs.Accounts.{Entry as Choice, chosen, hasAny}
 use Rattle.account.specs.Steps.{Retreat as Parting, retreat}
 use Rattle.sets.specs.Members.{members}
 use Rattle.sets.specs.Searches.{someBelow}
-use Rattle.sets.proofs.SearchLaws.{some-below-from, some-below-found}
 use Rattle.tables.specs.Entries.{entryOf, blank, entriesOf, inList, proper}
 use Rattle.tables.specs.Retreats.{Latest, followed, swept, Sweeping}
 use Rattle.tables.specs.declared.entry.Entry.{Entry}
 use Rattle.tables.proofs.Entering.{entries-set, entry-proper}
+use Rattle.tables.proofs.Listed.{meets-any, left-more}
 use Rattle.tables.proofs.Parting.{Parted, swept-parted, swept-culprit, retreat-some}
-
--- an element of a list whose elements are all below a bound
-listed-below : (x : ℕ) (ds : List ℕ) → All (λ (d : ℕ). d < 64) ds → inList x ds ≡ true → x < 64
-listed-below x [] all h = absurd (false≢true h)
-listed-below x (d ∷ ds) all h =
-    ⊎-elim (λ (t : eqb x d ≡ true). omega (arith, eqb-true x d t, all .0)) (λ (t : inList x ds ≡ true). listed-below x ds (all .1) t) (or-cases (eqb x d) (inList x ds) h)
-
-any-from : (s : Set) (x : ℕ) (ds : List ℕ) → s x ≡ true → inList x ds ≡ true → hasAny s ds ≡ true
-any-from s x [] t h = absurd (false≢true h)
-any-from s x (d ∷ ds) t h =
-    ⊎-elim (λ (q : eqb x d ≡ true). or-left (s d) (hasAny s ds) (ap s (sym (eqb-true x d q)) ∙ t)) (λ (q : inList x ds ≡ true). or-right (s d) (hasAny s ds) (any-from s x ds t q)) (or-cases (eqb x d) (inList x ds) h)
-
-any-found : (s : Set) (ds : List ℕ) → hasAny s ds ≡ true → (x : ℕ) × (s x ≡ true) × (inList x ds ≡ true)
-any-found s [] h = absurd (false≢true h)
-any-found s (d ∷ ds) h =
-    ⊎-elim (λ (q : s d ≡ true). (d, q, or-left (eqb d d) (inList d ds) (eq-eqb d d refl)))
-    (λ (q : hasAny s ds ≡ true). let f = any-found s ds q in (f .0, f .1, or-right (eqb (f .0) d) (inList (f .0) ds) (f .2)))
-    (or-cases (s d) (hasAny s ds) h)
-
-same-truth : (a b : Bool) → (a ≡ true → b ≡ true) → (b ≡ true → a ≡ true) → a ≡ b
-same-truth true b f g = sym (f refl)
-same-truth false true f g = g refl
-same-truth false false f g = refl
-
--- two sets meet below 64 where one has some decision of the other's list
-pub meets-any : (s t : Set) (ds : List ℕ) → t ≡ (λ (x : ℕ). inList x ds) → All (λ (d : ℕ). d < 64) ds → someBelow (λ (x : ℕ). s x && t x) 64 ≡ hasAny s ds
-meets-any s t ds e all =
-    rw e
-    (same-truth (someBelow (λ (x : ℕ). s x && inList x ds) 64) (hasAny s ds)
-    (λ h. let f = some-below-found (λ (x : ℕ). s x && inList x ds) 64 h in let p = and-parts (s (f .0)) (inList (f .0) ds) (f .2) in any-from s (f .0) ds (p .0) (p .1))
-    (λ h. let f = any-found s ds h in some-below-from (λ (x : ℕ). s x && inList x ds) 64 (f .0) (listed-below (f .0) ds all (f .2)) (and-from (s (f .0)) (inList (f .0) ds) (f .1) (f .2))))
-
-swapped : (a b c : Bool) → c ≡ true → (a || (b && c)) ≡ (b || a)
-swapped true true c h = refl
-swapped true false c h = refl
-swapped false true c h = h
-swapped false false c h = refl
-
--- one decision more in a set, and in its list
-left-more : (s t : Set) (ds : List ℕ) (d : ℕ) → s ≡ (λ (x : ℕ). inList x ds) → d < 64 → t ≡ (λ (x : ℕ). s x || (eqb x d && ltb d 64)) → t ≡ (λ (x : ℕ). inList x (d ∷ ds))
-left-more s t ds d e l h =
-    h ∙ fun-ext (λ (x : ℕ). ap (λ (u : Set). u x || (eqb x d && ltb d 64)) e ∙ swapped (inList x ds) (eqb x d) (ltb d 64) (lt-ltb d 64 l))
 
 -- one value more set to 0
 values-less : (p : Plan) (vs : List ℕ) (ds : List ℕ) (d : ℕ) → d < length vs → fromBytes vs ≡ (λ (x : ℕ). cond (inList x ds) 0 (p x)) → fromBytes (set vs d 0) ≡ (λ (x : ℕ). cond (inList x (d ∷ ds)) 0 (p x))
@@ -77,13 +35,13 @@ values-less p vs ds d l e =
 module _ (es : List Entry) (vs : List ℕ) where
   -- nothing has left yet
   sweeping-none : (place : ℕ) (s : Set) → length es ≡ 64 → length vs ≡ 64 → s ≡ (λ (x : ℕ). false)
-    → Sweeping es vs (record { culprit = entryOf (getD es place blank); left = []; stays = entriesOf es place }) es vs place s
+      → Sweeping es vs (record { culprit = entryOf (getD es place blank); left = []; stays = entriesOf es place }) es vs place s
   sweeping-none place s f w e = record { full = f; wide = w; stays = refl; left = e; values = refl }
 
   module _ (r : Parting) (ns : List Entry) (ws : List ℕ) (n : ℕ) (s : Set) (h : Sweeping es vs r ns ws n s) where
     -- a decision leaves
     sweeping-leaves : (d : ℕ) (t : Set) → d < 64 → t ≡ (λ (x : ℕ). s x || (eqb x d && ltb d 64))
-      → Sweeping es vs (record { culprit = r .culprit; left = d ∷ r .left; stays = r .stays }) ns (set ws d 0) n t
+        → Sweeping es vs (record { culprit = r .culprit; left = d ∷ r .left; stays = r .stays }) ns (set ws d 0) n t
     sweeping-leaves d t l e =
         record {
           full = h .full;
@@ -114,8 +72,8 @@ swept-next es place i l =
 
 -- the sweep from a place, before its first entry: the culprit has left
 pub sweep-begins : (es : List Entry) (vs : List ℕ) (place : ℕ) (s t : Set) → length es ≡ 64 → length vs ≡ 64 → getD es place blank .decision < 64
-  → s ≡ (λ (x : ℕ). false) → t ≡ (λ (x : ℕ). s x || (eqb x (getD es place blank .decision) && ltb (getD es place blank .decision) 64))
-  → Sweeping es vs (swept es place 0) es (set vs (getD es place blank .decision) 0) place t
+    → s ≡ (λ (x : ℕ). false) → t ≡ (λ (x : ℕ). s x || (eqb x (getD es place blank .decision) && ltb (getD es place blank .decision) 64))
+    → Sweeping es vs (swept es place 0) es (set vs (getD es place blank .decision) 0) place t
 unfolding swept
 sweep-begins es vs place s t f w l e h =
     sweeping-leaves es vs (record { culprit = entryOf (getD es place blank); left = []; stays = entriesOf es place }) es vs place s (sweeping-none es vs place s f w e) (getD es place blank .decision) t l h
@@ -139,7 +97,7 @@ module _ (es : List Entry) (place count i : ℕ) (p : proper (entriesOf es count
 
     -- its support has a decision that left, so it leaves
     pub sweep-drops : someBelow (λ (x : ℕ). members (e .support) x && s x) 64 ≡ true → (t : Set) → t ≡ (λ (x : ℕ). s x || (eqb x (e .decision) && ltb (e .decision) 64))
-      → Sweeping es vs (swept es place (i + 1 - (place + 1))) ns (set ws (e .decision) 0) n t
+        → Sweeping es vs (swept es place (i + 1 - (place + 1))) ns (set ws (e .decision) 0) n t
     sweep-drops m t q =
         let r = swept es place (i - (place + 1)) in
         let gone : Parting = record { culprit = r .culprit; left = e .decision ∷ r .left; stays = r .stays } in

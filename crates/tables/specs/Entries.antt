@@ -21,11 +21,11 @@ abbrev pub entriesOf : List Entry → ℕ → List Choice
 entriesOf es zero = []
 entriesOf es (suc n) = entryOf (getD es n blank) ∷ entriesOf es n
 
--- whether an entry's decision is below 64, its value 1 to 16, and its decision not on the trail yet
+-- whether an entry may enter a trail: its decision is below 64 and not on the trail, its value 1 to 16
 abbrev pub enters : Choice → List Choice → Bool
 enters e es = ltb (e .decision) 64 && (leb 1 (e .value) && (leb (e .value) 16 && eqb (chosen es (e .decision)) 0))
 
--- whether every entry enters after the older ones
+-- whether every entry may enter after the older ones
 abbrev pub proper : List Choice → Bool
 proper [] = true
 proper (e ∷ es) = enters e es && proper es

@@ -1,8 +1,7 @@
 -- The exclusions that flat tables stand for.
-use mathlib.Core.Bool.{Bool, true, false, cond, not, _&&_, _||_}
-use mathlib.Core.Path.{_≡_}
+use mathlib.Core.Bool.{Bool, cond, not, _&&_, _||_}
 use Prim.Native.Nat.{ℕ, _+_, _-_, _*_}
-use lib.Dec.{eqb, ltb}
+use lib.Dec.{ltb}
 use lib.ListN.{getD}
 use Rattle.std.specs.declared.option.Option.{Option}
 use Rattle.std.specs.declared.option.Option.the-variants.{None, Some}
@@ -27,11 +26,17 @@ exclusionBy reason resting = record { reason = members (record { bits = reason }
 abbrev pub cellOf : ℕ → ℕ → ℕ
 cellOf d v = 16 * d + (v - 1)
 
+-- whether a value is in its decision's set of excluded ones
+abbrev pub isExcluded : Exclusions → ℕ → ℕ → Bool
+isExcluded x d v = values (getD (x .excluded) d noValue) v
+
+-- what stands in the tables for a value
+abbrev pub storedAt : Exclusions → ℕ → ℕ → Exclusion
+storedAt x d v = exclusionBy (getD (x .reasons) (cellOf d v) 0) (values (getD (x .resting) d noValue) v)
+
 -- the exclusion of each value of the decisions below 64
 unfoldable pub exclusionsOf : Exclusions → ℕ → ℕ → Option Exclusion
-exclusionsOf x d v =
-    when (ltb d 64 && values (getD (x .excluded) d noValue) v)
-    (exclusionBy (getD (x .reasons) (cellOf d v) 0) (values (getD (x .resting) d noValue) v))
+exclusionsOf x d v = when (ltb d 64 && isExcluded x d v) (storedAt x d v)
 
 -- what a look-up answers, as an exclusion
 abbrev pub asExclusion : Option (DecisionSet × Bool) → Option Exclusion
@@ -42,10 +47,6 @@ asExclusion (Some e) = Some (record { reason = members (e .0); rests = e .1 })
 abbrev pub unlessMeets : Set → Option Exclusion → Option Exclusion
 unlessMeets s None = None
 unlessMeets s (Some e) = cond (someBelow (λ x. e .reason x && s x) 64) None (Some e)
-
--- the exclusions, with one put in
-abbrev pub putAt : (ℕ → ℕ → Option Exclusion) → ℕ → ℕ → Exclusion → ℕ → ℕ → Option Exclusion
-putAt ex d v e x w = cond (eqb x d && eqb w v) (Some e) (ex x w)
 
 -- whether an exclusion stays: its reason has no decision of a set, and it does not rest on the best, unless those stay too
 abbrev pub spared : Set → Bool → Exclusion → Bool

@@ -1,5 +1,5 @@
 -- What a retreat finds and leaves of a trail's entries.
-use mathlib.Core.Bool.{Bool, true, false, cond}
+use mathlib.Core.Bool.{true, false, cond}
 use mathlib.Core.List.{List, [], _∷_}
 use mathlib.Core.Path.{_≡_}
 use Prim.Native.Nat.{ℕ, zero, suc, _+_, _<_}
@@ -29,12 +29,12 @@ followed e r =
     (record { culprit = r .culprit; left = e .decision ∷ r .left; stays = r .stays })
     (record { culprit = r .culprit; left = r .left; stays = e ∷ r .stays })
 
--- the retreat whose culprit stands at a place, as far as the n entries after it
+-- the retreat whose culprit stands at a place, over the n entries after it
 unfoldable pub swept : List Entry → ℕ → ℕ → Parting
 swept es place zero = record { culprit = entryOf (getD es place blank); left = getD es place blank .decision ∷ []; stays = entriesOf es place }
 swept es place (suc n) = followed (entryOf (getD es (suc (place + n)) blank)) (swept es place n)
 
--- the arrays es and vs of a trail, as far as a retreat has gone: ns, ws, the first n entries and the set s hold what stays and what left
+-- a trail's entries es and values vs have become ns and ws by a retreat r: the first n entries stay, the decisions of s left, and those have the value 0
 pub record Sweeping (es : List Entry) (vs : List ℕ) (r : Parting) (ns : List Entry) (ws : List ℕ) (n : ℕ) (s : Set) : Type 0 where
   pub full : length ns ≡ 64
   pub wide : length ws ≡ 64
@@ -42,7 +42,7 @@ pub record Sweeping (es : List Entry) (vs : List ℕ) (r : Parting) (ns : List E
   pub left : s ≡ (λ (x : ℕ). inList x (r .left))
   pub values : fromBytes ws ≡ (λ (x : ℕ). cond (inList x (r .left)) 0 (fromBytes vs x))
 
--- a retreat by a blame from one trail to another, by what it answers: nobody is blamed, or the culprit and what left
+-- what a retreat from a blame answers, with the trail before and after it: none if no entry is blamed, else the culprit and the decisions that left
 abbrev pub Retreated : Set → List Choice → List Choice → Option Retreat → Type 0
 Retreated blame before after None = (retreat blame before ≡ None) × (after ≡ before)
 Retreated blame before after (Some r) =

@@ -38,7 +38,9 @@ fn without(set: ValueSet, v: u8) -> ValueSet
     requires high { ⌜ v ≤ 16 ⌝ }
     ensures { λ r. ⌜ values r ≡ (λ x. values set x && not (eqb x v)) ⌝ }
 {
-    ValueSet { bits: set.bits & !(1u16 << (v - 1)) }
+    ValueSet {
+        bits: set.bits & !(1u16 << (v - 1)),
+    }
 }
 
 /// A set of values with one of them in it or out of it.
@@ -56,7 +58,9 @@ fn first_decisions(count: u8) -> DecisionSet
     ensures { λ r. ⌜ members r ≡ (λ x. ltb x count) ⌝ }
 {
     if count < 64 {
-        DecisionSet { bits: (1u64 << count) - 1 }
+        DecisionSet {
+            bits: (1u64 << count) - 1,
+        }
     } else {
         DecisionSet { bits: u64::MAX }
     }
@@ -86,7 +90,9 @@ impl Exclusions {
         ensures { λ r. ⌜ asExclusion r ≡ exclusionsOf (now (self .entry)) d v ⌝ }
     {
         if d < 64 && self.excluded[d as usize].has(v) {
-            let reason = DecisionSet { bits: self.reasons[cell(d, v)] };
+            let reason = DecisionSet {
+                bits: self.reasons[cell(d, v)],
+            };
             Some((reason, self.resting[d as usize].has(v)))
         } else {
             None

@@ -20,10 +20,7 @@ use rules::Row;
 use tables::RuleTable;
 
 /// No decision: what stands behind the last.
-const ABSENT: Decision = Decision {
-    size: 0,
-    on: false,
-};
+const ABSENT: Decision = Decision { size: 0, on: false };
 
 impl Book {
     /// A book of no decisions and no rules.

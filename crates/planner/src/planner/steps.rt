@@ -26,7 +26,12 @@ impl<M: Measure> Planner<M> {
             Some(retreat) => {
                 let culprit = retreat.culprit;
                 self.exclusions.forget(retreat.left);
-                self.exclusions.put(culprit.decision, culprit.value, blamed.without(culprit.decision), rests);
+                self.exclusions.put(
+                    culprit.decision,
+                    culprit.value,
+                    blamed.without(culprit.decision),
+                    rests,
+                );
             }
             None => self.state = State::Settled,
         }
@@ -52,7 +57,15 @@ impl<M: Measure> Planner<M> {
         let size = self.book.size_of(decision);
         let plan = *self.trail.plan();
         let best = self.best_cost();
-        try_values(&self.book, best, &mut self.costs, &mut self.exclusions, &plan, decision, size);
+        try_values(
+            &self.book,
+            best,
+            &mut self.costs,
+            &mut self.exclusions,
+            &plan,
+            decision,
+            size,
+        );
         let support = support_of(&self.book, &plan, decision);
         match self.exclusions.smallest_free(decision, size) {
             Some(value) => self.trail.push(decision, value, support),

@@ -7,17 +7,20 @@ ghost use lib.ListN.{length};
 ghost use Rattle.std.specs.Holes.{removed};
 ghost use Rattle.tables.specs.Shapes.{allShaped, shaped};
 ghost use Rattle.tables.specs.Tables.{tableRows};
+use crate::rule_table::RuleTable;
 use measure::Price;
 use rules::Kind;
 use rules::Literal;
 use rules::Row;
-use crate::rule_table::RuleTable;
 
 /// What stands in a place that is not in use.
 const BLANK: Row = Row {
     kind: Kind::Forbid,
     count: 0,
-    pairs: [Literal { decision: 0, value: 0 }; 4],
+    pairs: [Literal {
+        decision: 0,
+        value: 0,
+    }; 4],
     target: 0,
     price: Price { tier: 0, cents: 0 },
 };
@@ -53,7 +56,7 @@ impl RuleTable {
     pub fn len(&self) -> usize
         ensures { λ r. ⌜ r ≡ length (tableRows (now (self .entry))) ⌝ }
     {
-        self.count
+        self.rows().len()
     }
 
     /// Puts one more rule behind the others.

@@ -92,7 +92,12 @@ impl Trail {
 
 /// Takes the entry at a place out of the first `count`, with every later one whose support has a decision that
 /// leaves. The others move up, and what leaves has the value 0. Answers how many stay, and the decisions that left.
-fn sweep(entries: &mut [Entry; 64], values: &mut [u8; 64], at: usize, count: usize) -> (usize, DecisionSet)
+fn sweep(
+    entries: &mut [Entry; 64],
+    values: &mut [u8; 64],
+    at: usize,
+    count: usize,
+) -> (usize, DecisionSet)
     requires within { ⌜ at < count ⌝ }
     requires few { ⌜ count ≤ 64 ⌝ }
     requires full { ⌜ length (now entries) ≡ 64 ⌝ }

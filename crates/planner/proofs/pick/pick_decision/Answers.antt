@@ -21,10 +21,11 @@ loop-i-again c =
     let i = c .loop-i .i in
     let low : i < 64 = omega (arith, c .decisions-decisions .ensures .few) in
     let waits-here =
-      waiting-is b (c .decisions-decisions .result .now) (c .rows .result .now) p i (c .is-waiting-waiting .result) (members (c .enabled-targets .result) i)
-      (c .decisions-decisions .ensures .value) (c .rows .ensures .value) (c .enabled-targets .ensures i low) (c .is-waiting-waiting .ensures) in
-    (picked-more ranks (waits b p) i (c .loop-i .picked) (c .preferred-picked .result) (c .is-waiting-waiting .result) waits-here (c .loop-i .inv .0) (c .preferred-picked .ensures),
-    picked-low ranks (c .is-waiting-waiting .result) i 64 (c .loop-i .picked) (c .preferred-picked .result) (c .preferred-picked .ensures) low (c .loop-i .inv .1))
+    waiting-is b (c .decisions-decisions .result .now) (c .rows .result .now) p i (c .is-waiting-waiting .result) (members (c .enabled-targets .result) i)
+    (c .decisions-decisions .ensures .value) (c .rows .ensures .value) (c .enabled-targets .ensures i low) (c .is-waiting-waiting .ensures) in (
+      picked-more ranks (waits b p) i (c .loop-i .picked) (c .preferred-picked .result) (c .is-waiting-waiting .result) waits-here (c .loop-i .inv .0) (c .preferred-picked .ensures),
+      picked-low ranks (c .is-waiting-waiting .result) i 64 (c .loop-i .picked) (c .preferred-picked .result) (c .preferred-picked .ensures) low (c .loop-i .inv .1),
+    )
 
 pub returns : need.returns
 returns c =

@@ -11,8 +11,8 @@ returns-then-not-at-most g c =
     record {
       long = c .price-suffixes .ensures .long;
       value =
-        cost-miss (g .M·Measure .meaning) (bookOf (c .args .book .now)) (c .args .decision) (fromBytes (c .args .plan .now)) (c .args .best) _ (c .rows-rows .result .now) (c .rows-rows .ensures .value)
-        (c .price-suffixes .ensures .value 0 _ (omega arith) (omega arith)) (c .if-not-at-most .ensures tt);
+          cost-miss (g .M·Measure .meaning) (bookOf (c .args .book .now)) (c .args .decision) (fromBytes (c .args .plan .now)) (c .args .best) _ (c .rows-rows .result .now) (c .rows-rows .ensures .value)
+          (c .price-suffixes .ensures .value 0 _ (omega arith) (omega arith)) (c .if-not-at-most .ensures tt);
     }
 
 pub returns : need.returns
@@ -20,6 +20,6 @@ returns g c =
     record {
       long = c .price-suffixes .ensures .long;
       value =
-        cost-hit (g .M·Measure .meaning) (bookOf (c .args .book .now)) (c .args .decision) (fromBytes (c .args .plan .now)) (c .args .best) _ (c .rows-rows .result .now) (members (c .kept-named-reason .result)) (members (c .without .result))
-        (c .rows-rows .ensures .value) (c .price-suffixes .ensures .value 0 _ (omega arith) (omega arith)) (c .if-not-at-most .ensures tt) (c .kept-named-reason .ensures) (c .without .ensures);
+          cost-hit (g .M·Measure .meaning) (bookOf (c .args .book .now)) (c .args .decision) (fromBytes (c .args .plan .now)) (c .args .best) _ (c .rows-rows .result .now) (members (c .kept-named-reason .result)) (members (c .without .result))
+          (c .rows-rows .ensures .value) (c .price-suffixes .ensures .value 0 _ (omega arith) (omega arith)) (c .if-not-at-most .ensures tt) (c .kept-named-reason .ensures) (c .without .ensures);
     }

@@ -14,8 +14,8 @@ returns-in-Some g c =
     record {
       long = c .pre .long;
       value =
-        forbid-hit (g .M·Measure .meaning) (bookOf (c .args .book .now)) (c .args .decision) (fromBytes (c .args .plan .now)) (c .args .best) (c .rows .result .now) (c .in-Some .row .now) (members (c .named .result)) (members (c .without .result))
-        (c .rows .ensures .value) (c .in-Some .ensures tt) (c .named .ensures) (c .without .ensures);
+          forbid-hit (g .M·Measure .meaning) (bookOf (c .args .book .now)) (c .args .decision) (fromBytes (c .args .plan .now)) (c .args .best) (c .rows .result .now) (c .in-Some .row .now) (members (c .named .result)) (members (c .without .result))
+          (c .rows .ensures .value) (c .in-Some .ensures tt) (c .named .ensures) (c .without .ensures);
     }
 
 pub returns-in-Some-best : need.returns-in-Some-best
@@ -26,8 +26,8 @@ returns-in-Some-best g c =
     record {
       long = c .try-cost .ensures .long;
       value =
-        c .try-cost .ensures .value ∙ ap (byCost m b (c .args .decision) p) (sym (c .in-Some-best .is))
-        ∙ forbid-miss m b (c .args .decision) p (c .args .best) (c .rows .result .now) (c .rows .ensures .value) (c .in-rest .ensures tt);
+          c .try-cost .ensures .value ∙ ap (byCost m b (c .args .decision) p) (sym (c .in-Some-best .is))
+          ∙ forbid-miss m b (c .args .decision) p (c .args .best) (c .rows .result .now) (c .rows .ensures .value) (c .in-rest .ensures tt);
     }
 
 pub returns-in-None : need.returns-in-None
@@ -38,6 +38,6 @@ returns-in-None g c =
     record {
       long = c .pre .long;
       value =
-        ap (byCost m b (c .args .decision) p) (sym (c .in-None .is))
-        ∙ forbid-miss m b (c .args .decision) p (c .args .best) (c .rows .result .now) (c .rows .ensures .value) (c .in-rest .ensures tt);
+          ap (byCost m b (c .args .decision) p) (sym (c .in-None .is))
+          ∙ forbid-miss m b (c .args .decision) p (c .args .best) (c .rows .result .now) (c .rows .ensures .value) (c .in-rest .ensures tt);
     }

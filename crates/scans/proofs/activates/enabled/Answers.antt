@@ -17,13 +17,13 @@ loop-row-again c d low =
     let p = fromBytes (c .args .plan .now) in
     let i = c .loop-row .row-index in
     let later = enables (drop (i + 1) rs) p d in
-    elim (c .if-met .came)
-    [ then-met w ↦
-      ap (λ (s : DecisionSet). members s d || later) (w .targets-is) ∙ ap (λ (s : ℕ → Bool). s d || later) (w .with-targets .ensures)
-      ∙ enables-more p rs i _ (c .loop-row-test .taken) d (members (c .loop-row .targets) d) low (sym (w .if-met .ensures tt)) ∙ c .loop-row .inv d low
-    | else-met w ↦
-      ap (λ (s : DecisionSet). members s d || later) (w .targets-is)
-      ∙ ap (λ (b : Bool). members (c .loop-row .targets) d || b) (enables-skip p rs i _ (c .loop-row-test .taken) d (sym (w .if-met .ensures tt))) ∙ c .loop-row .inv d low
+    elim (c .if-met .came) [
+      | then-met w ↦
+          ap (λ (s : DecisionSet). members s d || later) (w .targets-is) ∙ ap (λ (s : ℕ → Bool). s d || later) (w .with-targets .ensures)
+          ∙ enables-more p rs i _ (c .loop-row-test .taken) d (members (c .loop-row .targets) d) low (sym (w .if-met .ensures tt)) ∙ c .loop-row .inv d low
+      | else-met w ↦
+          ap (λ (s : DecisionSet). members s d || later) (w .targets-is)
+          ∙ ap (λ (b : Bool). members (c .loop-row .targets) d || b) (enables-skip p rs i _ (c .loop-row-test .taken) d (sym (w .if-met .ensures tt))) ∙ c .loop-row .inv d low
     ]
 
 pub returns : need.returns

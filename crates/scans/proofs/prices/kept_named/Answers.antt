@@ -29,15 +29,15 @@ loop-i-again g c x =
     let p = fromBytes (c .args .plan .now) in
     let i = c .loop-i .i in
     let later = c .pre .costs (i + 1) _ (omega arith) (omega arith) in
-    elim (c .if-is-kept .came)
-    [ then-is-kept w ↦
-      gather-kept p rs i _ (c .loop-i-test .taken) m (c .args .best) (c .loop-i .before) _ (c .if-is-kept .before) (members (c .loop-i .set)) (members (c .if-is-kept .set)) (members (w .named .result))
-      later (sym (w .if-is-kept .ensures tt)) (w .before-is ∙ w .join-before .ensures ∙ ap (m .joins (c .loop-i .before)) (w .read .ensures)) (w .named .ensures) (ap members (w .set-is) ∙ w .union-set .ensures) x
-      ∙ c .loop-i .inv x
-    | else-is-kept w ↦
-      ap₂ (λ (s : DecisionSet) b. members s x || namedIn (kept m (c .args .best) b (drop (i + 1) rs) p) x) (w .set-is) (w .before-is)
-      ∙ ap (λ (b : Bool). members (c .loop-i .set) x || b) (skip-spared p rs i _ (c .loop-i-test .taken) m (c .args .best) (c .loop-i .before) _ x later (sym (w .if-is-kept .ensures tt)))
-      ∙ c .loop-i .inv x
+    elim (c .if-is-kept .came) [
+      | then-is-kept w ↦
+          gather-kept p rs i _ (c .loop-i-test .taken) m (c .args .best) (c .loop-i .before) _ (c .if-is-kept .before) (members (c .loop-i .set)) (members (c .if-is-kept .set)) (members (w .named .result))
+          later (sym (w .if-is-kept .ensures tt)) (w .before-is ∙ w .join-before .ensures ∙ ap (m .joins (c .loop-i .before)) (w .read .ensures)) (w .named .ensures) (ap members (w .set-is) ∙ w .union-set .ensures) x
+          ∙ c .loop-i .inv x
+      | else-is-kept w ↦
+          ap₂ (λ (s : DecisionSet) b. members s x || namedIn (kept m (c .args .best) b (drop (i + 1) rs) p) x) (w .set-is) (w .before-is)
+          ∙ ap (λ (b : Bool). members (c .loop-i .set) x || b) (skip-spared p rs i _ (c .loop-i-test .taken) m (c .args .best) (c .loop-i .before) _ x later (sym (w .if-is-kept .ensures tt)))
+          ∙ c .loop-i .inv x
     ]
 
 pub returns : need.returns

@@ -26,10 +26,13 @@ returns-in-Break-check-row g c =
 
 pub put-in-requires : need.put-in-requires
 put-in-requires g c κs =
-    let none = accepted-none (rowRefusal (c .decisions .result .now) (c .row-row .result)) _ (sym (c .in-Continue-check-row .ensures tt)) in
-    (search needs,
-    (rule-shaped (c .args .rule .now) (c .row-row .result) (c .decisions .result .now) (c .row-row .ensures) (c .decisions .ensures .few) none,
-    omega (arith, c .if-rows-ge-MOST-RULES .left, ap length (c .rows .ensures .value))))
+    let none = accepted-none (rowRefusal (c .decisions .result .now) (c .row-row .result)) _ (sym (c .in-Continue-check-row .ensures tt)) in (
+      search needs,
+      (
+        rule-shaped (c .args .rule .now) (c .row-row .result) (c .decisions .result .now) (c .row-row .ensures) (c .decisions .ensures .few) none,
+        omega (arith, c .if-rows-ge-MOST-RULES .left, ap length (c .rows .ensures .value)),
+      ),
+    )
 
 pub returns : need.returns
 returns g c =
@@ -39,6 +42,6 @@ returns g c =
     let ds = c .decisions .result .now in
     let none = accepted-none (rowRefusal ds row) _ (sym (c .in-Continue-check-row .ensures tt)) in
     let (told, left) =
-      accepts m a (add (c .args .rule .now))
-      (rule-accepted m a (c .args .rule .now) row ds (c .rows .result .now) (c .row-row .ensures) (c .decisions .ensures .value) (c .rows .ensures .value) none (c .if-rows-ge-MOST-RULES .left)) in
+    accepts m a (add (c .args .rule .now))
+    (rule-accepted m a (c .args .rule .now) row ds (c .rows .result .now) (c .row-row .ensures) (c .decisions .ensures .value) (c .rows .ensures .value) none (c .if-rows-ge-MOST-RULES .left)) in
     record { value = told; after = c .put-in .ensures ∙ ap (λ (r : Row). added m a (r .kind) r) (c .row-row .ensures) ∙ left }

@@ -18,7 +18,7 @@ returns-in-Some g c =
     let full : length (c .in-Some .best .plan) ≡ 64 = search needs in
     record {
       value =
-        best-reported m a (length (c .decisions-count .result .now)) (c .in-Some .best .plan) buffer (c .copy-from-slice .last .self) (bestOf (c .in-Some .best)) same (omega (arith, c .decisions-count .ensures .few, full)) (omega arith)
-        (ap (mapped bestOf) (c .in-Some .is)) refl (c .copy-from-slice .ensures .after);
+          best-reported m a (length (c .decisions-count .result .now)) (c .in-Some .best .plan) buffer (c .copy-from-slice .last .self) (bestOf (c .in-Some .best)) same (omega (arith, c .decisions-count .ensures .few, full)) (omega arith)
+          (ap (mapped bestOf) (c .in-Some .is)) refl (c .copy-from-slice .ensures .after);
       kept = λ e. absurd (true≢false e);
     }

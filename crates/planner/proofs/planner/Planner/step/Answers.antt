@@ -9,7 +9,7 @@ use Rattle.planner.proofs.planner.Planner.step.Needs as need
 pub extend-requires : need.extend-requires
 extend-requires g c κs =
     let (known, idle) =
-      picked-idle (g .M·Measure .meaning) (accountOf (c .args .self .now)) (fromBytes (c .plan .result .now)) (c .pick-decision .result) (c .plan .ensures .value) (c .pick-decision .ensures) (c .in-Some .decision) (c .in-Some .is) in
+    picked-idle (g .M·Measure .meaning) (accountOf (c .args .self .now)) (fromBytes (c .plan .result .now)) (c .pick-decision .result) (c .plan .ensures .value) (c .pick-decision .ensures) (c .in-Some .decision) (c .in-Some .is) in
     (search needs, (known, idle))
 
 pub returns-in-Some : need.returns-in-Some

@@ -1,5 +1,4 @@
 use mathlib.Core.Path.{ap, _∙_}
-use Prim.Native.Nat.{ℕ}
 use lib.ListN.{getD}
 use Rattle.sets.specs.Members.{values}
 use Rattle.sets.specs.Searches.{countOutside}

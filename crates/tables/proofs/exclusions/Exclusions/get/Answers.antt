@@ -1,11 +1,10 @@
 use mathlib.Core.Bool.{Bool}
-use mathlib.Core.Path.{_≡_, sym, ap, ap₂, _∙_}
+use mathlib.Core.Path.{sym, ap, ap₂, _∙_}
 use Prim.Native.Nat.{ℕ}
 use lib.ListN.{getD}
 use Rattle.std.specs.declared.option.Option.the-variants.{Some}
 use Rattle.rules.specs.Refusals.{when}
-use Rattle.sets.specs.Members.{values}
-use Rattle.tables.specs.Excluded.{cellOf, exclusionBy, noValue}
+use Rattle.tables.specs.Excluded.{exclusionBy, noValue, storedAt}
 use Rattle.tables.proofs.Cells.{exclusion-at, not-excluded, past-excluded}
 use Rattle.tables.proofs.Marks.{value-known}
 use Rattle.tables.proofs.exclusions.Exclusions.get.Needs as need
@@ -22,12 +21,12 @@ returns-then-has c =
     let d = c .args .d in
     let v = c .args .v in
     ap₂ (λ (k : ℕ) (b : Bool). Some (exclusionBy (getD (x .reasons) k 0) b)) (c .cell .ensures .value) (c .has-then-has .ensures)
-    ∙ ap (λ (b : Bool). when b (exclusionBy (getD (x .reasons) (cellOf d v) 0) (values (getD (x .resting) d noValue) v))) (c .if-has .ensures tt)
+    ∙ ap (λ (b : Bool). when b (storedAt x d v)) (c .if-has .ensures tt)
     ∙ sym (exclusion-at x d v (c .if-d-lt64 .taken))
 
 pub returns-else-d-lt64 : need.returns-else-d-lt64
 returns-else-d-lt64 c =
-    elim (c .else-d-lt64 .came)
-    [ else-d-lt64·by·then-d-lt64·else-has w ↦ sym (not-excluded (c .args .self .now) (c .args .d) (c .args .v) (sym (w .if-has .ensures tt)))
-    | else-d-lt64·by·else-d-lt64 w ↦ sym (past-excluded (c .args .self .now) (c .args .d) (c .args .v) (w .if-d-lt64 .left))
+    elim (c .else-d-lt64 .came) [
+      | else-d-lt64·by·then-d-lt64·else-has w ↦ sym (not-excluded (c .args .self .now) (c .args .d) (c .args .v) (sym (w .if-has .ensures tt)))
+      | else-d-lt64·by·else-d-lt64 w ↦ sym (past-excluded (c .args .self .now) (c .args .d) (c .args .v) (w .if-d-lt64 .left))
     ]

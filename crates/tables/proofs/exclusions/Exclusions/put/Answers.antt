@@ -1,9 +1,8 @@
-use mathlib.Core.Path.{_≡_, ap, _∙_}
-use Prim.Native.Nat.{ℕ, _<_}
+use mathlib.Core.Path.{ap, _∙_}
+use Prim.Native.Nat.{ℕ}
 use native.Mathlib.Omega.{arith}
-use lib.ListN.{getD, length, set}
-use Rattle.tables.specs.Excluded.{cellOf, exclusionsOf, noValue}
-use Rattle.tables.specs.declared.exclusions.Exclusions.{Exclusions}
+use lib.ListN.{getD, set}
+use Rattle.tables.specs.Excluded.{exclusionsOf, noValue}
 use Rattle.tables.proofs.Cells.{put-is}
 use Rattle.tables.proofs.Marks.{marked-in}
 use Rattle.tables.proofs.exclusions.Exclusions.put.Needs as need

@@ -1,7 +1,5 @@
-use mathlib.Core.Path.{_≡_, refl, sym, ap, _∙_}
-use Prim.Native.Nat.{ℕ, _<_}
+use mathlib.Core.Path.{ap, _∙_}
 use native.Mathlib.Omega.{arith}
-use lib.ListN.{length}
 use Rattle.sets.specs.Members.{members}
 use Rattle.tables.specs.Excluded.{exclusionsOf, spared}
 use Rattle.tables.specs.declared.exclusions.Exclusions.{Exclusions}
@@ -15,9 +13,9 @@ loop-d-again c =
     let x = c .loop-d .self in
     let d = c .loop-d .d in
     through-more keep (exclusionsOf (c .args .self .now)) (exclusionsOf x) (exclusionsOf (c .if-self-at-ne0 .self)) d (c .loop-d .inv)
-    (elim (c .if-self-at-ne0 .came)
-    [ then-self-at-ne0 w ↦ (λ y v. ap (λ (z : Exclusions). exclusionsOf z y v) (w .self-is) ∙ spared-at keep x d (w .spared-values .result) (c .loop-d-test .taken) (omega arith) (w .spared-values .ensures) y v)
-    | else-self-at-ne0 w ↦ (λ y v. ap (λ (z : Exclusions). exclusionsOf z y v) (w .self-is) ∙ spared-none keep x d (w .if-self-at-ne0 .left) y v)
+    (elim (c .if-self-at-ne0 .came) [
+      | then-self-at-ne0 w ↦ (λ y v. ap (λ (z : Exclusions). exclusionsOf z y v) (w .self-is) ∙ spared-at keep x d (w .spared-values .result) (c .loop-d-test .taken) (omega arith) (w .spared-values .ensures) y v)
+      | else-self-at-ne0 w ↦ (λ y v. ap (λ (z : Exclusions). exclusionsOf z y v) (w .self-is) ∙ spared-none keep x d (w .if-self-at-ne0 .left) y v)
     ])
 
 pub returns : need.returns

@@ -1,11 +1,8 @@
-use mathlib.Core.Bool.{true}
-use mathlib.Core.List.{List}
-use mathlib.Core.Path.{_≡_, sym, ap, _∙_}
+use mathlib.Core.Path.{ap, _∙_}
 use Prim.Native.Nat.{_<_}
 use native.Mathlib.Omega.{arith}
-use lib.ListN.{length, take}
+use lib.ListN.{take}
 use Rattle.std.proofs.shelf.Lists.{length-set, length-take, take-more-set}
-use Rattle.rules.specs.declared.row.Row.{Row}
 use Rattle.tables.specs.Shapes.{allShaped}
 use Rattle.tables.proofs.RowEdits.{shaped-push}
 use Rattle.tables.proofs.rule_table.RuleTable.push.Needs as need
@@ -14,10 +11,13 @@ pub ghost-self : need.ghost-self
 ghost-self c =
     let t = c .args .self .now in
     let room : t .count < 256 = omega (arith, length-take (t .count) (t .rows), c .pre .room) in
-    let after = take-more-set (t .rows) (t .count) (c .args .row) (omega arith) in
-    (omega arith,
-    (length-set (t .rows) (t .count) (c .args .row) ∙ t .full,
-    (ap allShaped after ∙ shaped-push (take (t .count) (t .rows)) (c .args .row) (t .shapes) (c .pre .shape), tt)))
+    let after = take-more-set (t .rows) (t .count) (c .args .row) (omega arith) in (
+      omega arith,
+      (
+        length-set (t .rows) (t .count) (c .args .row) ∙ t .full,
+        (ap allShaped after ∙ shaped-push (take (t .count) (t .rows)) (c .args .row) (t .shapes) (c .pre .shape), tt),
+      ),
+    )
 
 pub returns : need.returns
 returns c =

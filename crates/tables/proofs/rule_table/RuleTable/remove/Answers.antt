@@ -11,8 +11,8 @@ ghost-self c =
     let t = c .args .self .now in
     let i = c .args .place in
     let after =
-      closed-gap (t .rows) (c .copy-within .last .self) (t .count) i (omega arith) (omega (arith, length-take (t .count) (t .rows), c .pre))
-      (c .copy-within .ensures .after)
+    closed-gap (t .rows) (c .copy-within .last .self) (t .count) i (omega arith) (omega (arith, length-take (t .count) (t .rows), c .pre))
+    (c .copy-within .ensures .after)
     in
     (omega arith, (c .copy-within .ensures .len ∙ t .full, (ap allShaped after ∙ shaped-removed (take (t .count) (t .rows)) i (t .shapes), tt)))
 

@@ -17,10 +17,19 @@ ghost-self c =
     let s = members (c .args .blame) in
     let place = c .in-Continue-at .at in
     let l = c .in-Continue-at .ensures tt in
-    let h = c .sweep-count .ensures .after in
-    (c .sweep-count .ensures .few, (h .full, (h .wide,
-    (sweep-proper s (t .entries) place (t .count) l (t .distinct) h,
-    (sweep-planned s (t .entries) place (t .count) l (t .distinct) h (t .planned), tt)))))
+    let h = c .sweep-count .ensures .after in (
+      c .sweep-count .ensures .few,
+      (
+        h .full,
+        (
+          h .wide,
+          (
+            sweep-proper s (t .entries) place (t .count) l (t .distinct) h,
+            (sweep-planned s (t .entries) place (t .count) l (t .distinct) h (t .planned), tt),
+          ),
+        ),
+      ),
+    )
 
 pub returns : need.returns
 returns c =
@@ -28,8 +37,9 @@ returns c =
     let s = members (c .args .blame) in
     let place = c .in-Continue-at .at in
     let l = c .in-Continue-at .ensures tt in
-    let h = c .sweep-count .ensures .after in
-    (swept (t .entries) place (t .count - (place + 1)) .left,
-    sweep-retreats s (t .entries) place (t .count) l (t .distinct) h,
-    h .left,
-    sweep-known s (t .entries) place (t .count) l (t .distinct) h)
+    let h = c .sweep-count .ensures .after in (
+      swept (t .entries) place (t .count - (place + 1)) .left,
+      sweep-retreats s (t .entries) place (t .count) l (t .distinct) h,
+      h .left,
+      sweep-known s (t .entries) place (t .count) l (t .distinct) h,
+    )

@@ -1,8 +1,7 @@
-use mathlib.Core.Path.{_≡_, sym, ap, subst, _∙_}
-use mathlib.Core.List.{List}
-use Prim.Native.Nat.{ℕ, _+_, _-_, _≤_, _<_}
+use mathlib.Core.Path.{_≡_, sym, subst, _∙_}
+use Prim.Native.Nat.{ℕ, _+_, _-_, _<_}
 use native.Mathlib.Omega.{arith}
-use lib.ListN.{getD, set, length}
+use lib.ListN.{getD}
 use Rattle.std.proofs.shelf.Lists.{getD-set-other, length-set}
 use Rattle.sets.specs.Members.{members}
 use Rattle.tables.specs.Entries.{blank}
@@ -29,16 +28,23 @@ loop-i-again c =
     let is : getD es i blank ≡ e = sym (c .loop-i .inv .3 i (omega arith)) in
     let before : c .args .at < i = omega arith in
     let within : i < c .args .count = omega arith in
-    elim (c .if-meets .came)
-    [ then-meets w ↦
-      rw (w .entries-is, w .values-is, w .left-is, w .place-is)
-      (omega arith, c .loop-i .inv .1, length-set (c .loop-i .values) (e .decision) 0 ∙ c .loop-i .inv .2, λ k l. c .loop-i .inv .3 k (omega arith),
-      λ vs h. sweep-drops es (c .args .at) (c .args .count) i (c .pre .distinct) before within e is (c .loop-i .inv .4 vs h) (sym (w .if-meets .ensures tt)) (members (w .with-left-then-meets .result)) (w .with-left-then-meets .ensures))
-    | else-meets w ↦
-      rw (w .entries-is, w .values-is, w .left-is, w .place-is)
-      (omega arith, length-set (c .loop-i .entries) n e ∙ c .loop-i .inv .1, c .loop-i .inv .2,
-      λ k l. getD-set-other (c .loop-i .entries) n k e blank (λ (q : k ≡ n). omega arith) ∙ c .loop-i .inv .3 k (omega arith),
-      λ vs h. sweep-keeps es (c .args .at) (c .args .count) i (c .pre .distinct) before within e is (c .loop-i .inv .4 vs h) (sym (w .if-meets .ensures tt)) (omega arith))
+    elim (c .if-meets .came) [
+      | then-meets w ↦
+          rw (w .entries-is, w .values-is, w .left-is, w .place-is) (
+            omega arith,
+            c .loop-i .inv .1,
+            length-set (c .loop-i .values) (e .decision) 0 ∙ c .loop-i .inv .2,
+            λ k l. c .loop-i .inv .3 k (omega arith),
+            λ vs h. sweep-drops es (c .args .at) (c .args .count) i (c .pre .distinct) before within e is (c .loop-i .inv .4 vs h) (sym (w .if-meets .ensures tt)) (members (w .with-left-then-meets .result)) (w .with-left-then-meets .ensures),
+          )
+      | else-meets w ↦
+          rw (w .entries-is, w .values-is, w .left-is, w .place-is) (
+            omega arith,
+            length-set (c .loop-i .entries) n e ∙ c .loop-i .inv .1,
+            c .loop-i .inv .2,
+            λ k l. getD-set-other (c .loop-i .entries) n k e blank (λ (q : k ≡ n). omega arith) ∙ c .loop-i .inv .3 k (omega arith),
+            λ vs h. sweep-keeps es (c .args .at) (c .args .count) i (c .pre .distinct) before within e is (c .loop-i .inv .4 vs h) (sym (w .if-meets .ensures tt)) (omega arith),
+          )
     ]
 
 pub returns : need.returns
@@ -50,8 +56,8 @@ returns c =
     record {
       few = omega arith;
       after =
-        subst P done
-        (c .loop-i .inv .4 vs
-        (sweep-begins es vs (c .args .at) (members (c .empty .result)) (members (c .with-left .result)) (c .pre .full) (c .pre .wide)
-        (entry-proper es (c .args .count) (c .args .at) (c .pre .distinct) (c .pre .within) .0 .known) (c .empty .ensures) (c .with-left .ensures)));
+          subst P done
+          (c .loop-i .inv .4 vs
+          (sweep-begins es vs (c .args .at) (members (c .empty .result)) (members (c .with-left .result)) (c .pre .full) (c .pre .wide)
+          (entry-proper es (c .args .count) (c .args .at) (c .pre .distinct) (c .pre .within) .0 .known) (c .empty .ensures) (c .with-left .ensures)));
     }
