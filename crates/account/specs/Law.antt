@@ -8,11 +8,11 @@ use lib.Dec.{eqb}
 use lib.ListN.{length}
 use Rattle.std.specs.declared.option.Option.{Option}
 use Rattle.std.specs.declared.option.Option.the-variants.{None, Some}
-use Rattle.std.specs.shelf.Lists.{sumBy, countBy}
+use Rattle.std.specs.shelf.Lists.{All, sumBy, countBy}
 use Rattle.measure.specs.Meaning.{Meaning}
 use Rattle.rules.specs.Conditions.{Plan, planOf, condition}
 use Rattle.rules.specs.Judging.{openRefusal}
-use Rattle.rules.specs.Plans.{Book, Set, Lawful, cost}
+use Rattle.rules.specs.Plans.{Book, Set, Lawful, cost, isLawful}
 use Rattle.rules.specs.declared.decision.Decision.{Decision}
 use Rattle.rules.specs.declared.literal.Literal.{Literal}
 use Rattle.rules.specs.declared.row.Kind.{Kind}
@@ -70,3 +70,8 @@ module _ {C : Type 0} (m : Meaning C) where
 
   abbrev pub Planning : Type 0
   Planning = (ds : List Decision) → openRefusal ds ≡ None → (cs cs′ : List Call) → PlanningLaw ds cs cs′
+
+-- the test of lawfulness that a change of rules makes tells lawful plans from the others, where targets are known and nothing past the decisions is chosen
+abbrev pub LawfulIsTested : Type 0
+LawfulIsTested =
+    (b : Book) (p : Plan) → All (λ r. r .target < length (b .decisions)) (b .activates) → ((d : ℕ) → length (b .decisions) ≤ d → p d ≡ 0) → (isLawful b p ≡ true) ↔ Lawful b p

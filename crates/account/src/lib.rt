@@ -1,5 +1,5 @@
 //! The account of a planner's calls, and the law of planning over whole lists of them.
-ghost use Rattle.account.specs.Law.{Planning};
+ghost use Rattle.account.specs.Law.{LawfulIsTested, Planning};
 ghost use Rattle.account.specs.Worked.{AllShown};
 
 mod state;
@@ -17,6 +17,13 @@ pub fn planning_law<M: Measure>() -> bool
 /// The worked cases come out as they are stated.
 pub fn worked_cases() -> bool
     ensures { λ _. ⌜ AllShown ⌝ }
+{
+    true
+}
+
+/// The test that decides whether a best stays tells lawful plans from the others.
+pub fn lawful_is_tested() -> bool
+    ensures { λ _. ⌜ LawfulIsTested ⌝ }
 {
     true
 }

@@ -7,5 +7,4 @@ mod planner;
 mod trials;
 mod weighing;
 
-pub use best::Best;
 pub use planner::Planner;

@@ -33,6 +33,20 @@ none-met (r ∷ rs) p h =
     let (here, later) = and-parts (not (met p r)) (meetsNone rs p) h in
     (not-true (met p r) here, none-met rs p later)
 
+below-all : (t : ℕ → Bool) (n : ℕ) → ((d : ℕ) → d < n → t d ≡ true) → allBelow t n ≡ true
+below-all t zero h = refl
+below-all t (suc n) h = and-from (t n) (allBelow t n) (h n (omega arith)) (below-all t n (λ d l. h d (omega arith)))
+
+both-true : (x y : Bool) → (x ≡ true → y ≡ true) → (y ≡ true → x ≡ true) → Bool·beq x y ≡ true
+both-true true true f g = refl
+both-true true false f g = f refl
+both-true false true f g = g refl
+both-true false false f g = refl
+
+meets-none : (rs : List Row) (p : Plan) → All (λ r. met p r ≡ false) rs → meetsNone rs p ≡ true
+meets-none [] p h = refl
+meets-none (r ∷ rs) p h = and-from (not (met p r)) (meetsNone rs p) (not-from-false (met p r) (h .0)) (meets-none rs p (h .1))
+
 module _ (b : Book) (p : Plan) (known : Targets (length (b .decisions)) (b .activates)) where
   -- a decision that passes the test is treated lawfully
   pub fits-true : (d : ℕ) → fits b p d ≡ true → Fits b p d
@@ -60,3 +74,13 @@ module _ (b : Book) (p : Plan) (known : Targets (length (b .decisions)) (b .acti
   lawful-from-test idle h =
       let (all, clear) = and-parts (allBelow (fits b p) (length (b .decisions))) (meetsNone (b .forbids) p) h in
       lawful-from-fits (λ d l. fits-true d (below-true (fits b p) (length (b .decisions)) d all l)) idle (none-met (b .forbids) p clear)
+
+  -- a lawful plan passes the test
+  pub test-from-lawful : Lawful b p → isLawful b p ≡ true
+  test-from-lawful h =
+      and-from (allBelow (fits b p) (length (b .decisions))) (meetsNone (b .forbids) p)
+      (below-all (fits b p) (length (b .decisions)) (λ d l.
+      and-from (Bool·beq (ltb 0 (p d)) (active b p d)) (leb (p d) (sizeAt (b .decisions) d))
+      (both-true (ltb 0 (p d)) (active b p d) (λ e. active-complete b p known d (h .only-active d (ltb-true 0 (p d) e))) (λ e. lt-ltb 0 (p d) (h .all-active d (active-sound b p d e))))
+      (le-leb (p d) (sizeAt (b .decisions) d) (h .in-range d))))
+      (meets-none (b .forbids) p (h .unforbidden))

@@ -89,7 +89,7 @@ impl<M: Measure> Planner<M> {
     }
 
     /// One step of the search.
-    pub fn step(&mut self)
+    pub(crate) fn step(&mut self)
         ensures { λ _. ⌜ accountOf (now (self .exit)) ≡ step meaning (accountOf (now (self .entry))) ⌝ }
     {
         match pick_decision(&self.book, &self.ranks, self.trail.plan()) {
