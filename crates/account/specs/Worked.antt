@@ -145,6 +145,10 @@ clash = forbidBoth (pair 0 1) (pair 1 1) refl ∷ []
 abbrev pub choice : List Call
 choice = charge (pair 0 1) 0 5 ∷ charge (pair 0 2) 0 10 ∷ []
 
+-- 0=1 activates decision 1, and goes not with 2=1, the one value of decision 2
+abbrev pub orphan : List Call
+orphan = activate (pair 0 1) 1 ∷ forbidBoth (pair 0 1) (pair 2 1) refl ∷ []
+
 -- where a planner goes quietly wrong
 pub record PitfallsShown : Type 0 where
   -- what only a circle activates stays idle
@@ -158,6 +162,9 @@ pub record PitfallsShown : Type 0 where
   pub clash-exclusion : excludes cents (on 2 ∷ on 1 ∷ []) (clash ++ run 2 ∷ []) 1 1 ≡ excluded None
   pub clash-steps : runs cents (on 2 ∷ on 1 ∷ []) clash 9 ≡ ran 5 Settled
   pub clash-best : tells cents (on 2 ∷ on 1 ∷ []) (clash ++ run 9 ∷ []) (9 ∷ 9 ∷ []) ≡ reported Settled (sum 0) (2 ∷ 1 ∷ [])
+  -- an entry leaves with what made its decision active: to keep it would choose decision 1 beside 0=2
+  pub orphan-steps : runs cents (on 2 ∷ off 1 ∷ on 1 ∷ []) orphan 9 ≡ ran 6 Settled
+  pub orphan-best : tells cents (on 2 ∷ off 1 ∷ on 1 ∷ []) (orphan ++ run 9 ∷ []) (9 ∷ 9 ∷ 9 ∷ []) ≡ reported Settled (sum 0) (2 ∷ 0 ∷ 1 ∷ [])
   -- an exclusion that rests on the best goes with a price that is withdrawn: to keep it would leave the best at 5
   pub choice-best : tells cents (on 2 ∷ []) (choice ++ run 9 ∷ []) (9 ∷ []) ≡ reported Settled (sum 5) (1 ∷ [])
   pub choice-rests : restsOn (history cents (fresh (on 2 ∷ [])) (choice ++ run 9 ∷ []) .exclusions 0 2) ≡ true
