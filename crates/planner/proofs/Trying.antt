@@ -153,10 +153,6 @@ module _ {C : Type 0} (m : Meaning C) (b : Book) (best : Option C) (p : Plan) (e
   both-asked (Some x) t e = refl
   both-asked None t e = refl
 
-  and-true : (x : Bool) → (x && true) ≡ x
-  and-true true = refl
-  and-true false = refl
-
   -- one value more
   tried-more : (n : ℕ) → _≡_ {A = ℕ → ℕ → Option Exclusion} (λ x w. orTried (triedTo m b best p ex d n x w) (eqb x d && eqb w (n + 1)) (tryPlan m b best d (choose p d (n + 1)))) (triedTo m b best p ex d (n + 1))
   unfolding triedTo

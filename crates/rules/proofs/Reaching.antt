@@ -1,5 +1,5 @@
 -- A pass over the rows reaches what one round of the active set does.
-use mathlib.Core.Bool.{Bool, true, false, cond, _&&_, _||_}
+use mathlib.Core.Bool.{Bool, true, false, cond, _&&_, _||_, and-true, and-false, or-false, or-assoc}
 use mathlib.Core.List.{List, [], _∷_}
 use mathlib.Core.Logic.{⊎-elim}
 use mathlib.Core.Path.{_≡_, refl, sym, ap, _∙_, fun-ext}
@@ -32,32 +32,16 @@ module _ (rs : List Row) (q : Plan) (s : Set) (i : ℕ) (d : Row) (l : i < lengt
   pub reached-no : (isActivate (getD rs i d .kind) && met q (getD rs i d)) ≡ false → reached (drop i rs) q s ≡ reached (drop (i + 1) rs) q s
   reached-no h = next ∙ ap (λ (b : Bool). reached (drop (i + 1) rs) q (cond b (insert (getD rs i d .target) s) s)) h
 
-or-false : (x : Bool) → x ≡ (x || false)
-or-false true = refl
-or-false false = refl
-
-and-false : (x : Bool) → (x && false) ≡ false
-and-false true = refl
-and-false false = refl
-
-and-true : (x : Bool) → (x && true) ≡ x
-and-true true = refl
-and-true false = refl
-
-or-assoc : (x y z : Bool) → ((x || y) || z) ≡ (x || (y || z))
-or-assoc true y z = refl
-or-assoc false y z = refl
-
 -- a flag that is raised is one decision more
 pub raised : (flags : List Bool) (t : ℕ) → t < length flags → fromFlags (set flags t true) ≡ insert t (fromFlags flags)
 raised flags t l =
     fun-ext (λ (k : ℕ).
     ⊎-elim (λ (e : k ≡ t). rw e (getD-set-same flags t true false l ∙ sym (or-right (getD flags t false) (eqb t t) (eq-eqb t t refl))))
-    (λ (ne : k ≡ t → ⊥). getD-set-other flags t k true false ne ∙ or-false (getD flags k false) ∙ ap (λ (b : Bool). getD flags k false || b) (sym (ne-eqb k t ne)))
+    (λ (ne : k ≡ t → ⊥). getD-set-other flags t k true false ne ∙ sym (or-false (getD flags k false)) ∙ ap (λ (b : Bool). getD flags k false || b) (sym (ne-eqb k t ne)))
     (cases-eq k t))
 
 reached-at : (rs : List Row) (q : Plan) (s : Set) (d : ℕ) → reached rs q s d ≡ (s d || enables (activates rs) q d)
-reached-at [] q s d = or-false (s d)
+reached-at [] q s d = sym (or-false (s d))
 reached-at (r ∷ rs) q s d = go (isActivate (r .kind)) (met q r) refl (λ t. reached-at rs q t d)
   where
     go : (a m : Bool) → met q r ≡ m → ((t : Set) → reached rs q t d ≡ (t d || enables (activates rs) q d))

@@ -1,5 +1,5 @@
 -- Sets that a loop gathers from the pairs of a condition, or from rows.
-use mathlib.Core.Bool.{Bool, true, false, cond, not, _&&_, _||_}
+use mathlib.Core.Bool.{Bool, true, false, cond, not, _&&_, _||_, and-true, and-false, or-assoc}
 use mathlib.Core.List.{List, [], _∷_}
 use mathlib.Core.Logic.{⊎-elim}
 use mathlib.Core.Path.{_≡_, refl, sym, ap, ap₂, _∙_}
@@ -23,10 +23,6 @@ known-at n [] i d l h = absurd (omega arith)
 known-at n (k ∷ ks) zero d l h = ltb-true (k .decision) n (and-parts (ltb (k .decision) n) (knownDecisions n ks) h .0)
 known-at n (k ∷ ks) (suc i) d l h = known-at n ks i d (omega arith) (and-parts (ltb (k .decision) n) (knownDecisions n ks) h .1)
 
-pub or-false : (x : Bool) → (x || false) ≡ x
-or-false true = refl
-or-false false = refl
-
 regroup : (s e n : Bool) → ((s || (e && true)) || n) ≡ (s || (e || n))
 regroup true e n = refl
 regroup false true n = refl
@@ -48,18 +44,6 @@ target-low d t l = go (eqb d t) refl
     go : (b : Bool) → eqb d t ≡ b → (b && ltb t 64) ≡ b
     go true e = lt-ltb t 64 (omega (arith, eqb-true d t e))
     go false e = refl
-
-or-assoc : (x y z : Bool) → ((x || y) || z) ≡ (x || (y || z))
-or-assoc true y z = refl
-or-assoc false y z = refl
-
-and-true : (x : Bool) → (x && true) ≡ x
-and-true true = refl
-and-true false = refl
-
-and-false : (x : Bool) → (x && false) ≡ false
-and-false true = refl
-and-false false = refl
 
 module _ (p : Plan) (rs : List Row) (i : ℕ) (r : Row) (l : i < length rs) where
   next-enables : (d : ℕ) (b : Bool) → met p (getD rs i r) ≡ b → enables (drop i rs) p d ≡ ((eqb d (getD rs i r .target) && b) || enables (drop (i + 1) rs) p d)

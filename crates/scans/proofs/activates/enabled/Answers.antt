@@ -1,4 +1,4 @@
-use mathlib.Core.Bool.{Bool, _||_}
+use mathlib.Core.Bool.{Bool, _||_, or-false}
 use mathlib.Core.Path.{_≡_, sym, ap, _∙_}
 use Prim.Native.Nat.{ℕ, _+_}
 use lib.ListN.{drop}
@@ -7,7 +7,7 @@ use Rattle.rules.specs.Conditions.{fromBytes}
 use Rattle.rules.specs.Plans.{enables}
 use Rattle.sets.specs.Members.{members}
 use Rattle.sets.specs.declared.decision_set.DecisionSet.{DecisionSet}
-use Rattle.scans.proofs.Gathered.{enables-more, enables-skip, or-false}
+use Rattle.scans.proofs.Gathered.{enables-more, enables-skip}
 use Rattle.scans.proofs.activates.enabled.Needs as need
 use Rattle.scans.proofs.activates.enabled.Needs.{then-met, else-met}
 

@@ -1,4 +1,4 @@
-use mathlib.Core.Bool.{Bool, true, _||_}
+use mathlib.Core.Bool.{Bool, true, _||_, or-false}
 use mathlib.Core.Path.{_≡_, sym, ap, _∙_, fun-ext}
 use Prim.Native.Nat.{ℕ, _+_}
 use lib.ListN.{drop}
@@ -7,7 +7,7 @@ use Rattle.rules.specs.Compose.{blank}
 use Rattle.rules.specs.Conditions.{names}
 use Rattle.rules.specs.Judging.{knownDecisions}
 use Rattle.sets.specs.Members.{members}
-use Rattle.scans.proofs.Gathered.{names-more, or-false}
+use Rattle.scans.proofs.Gathered.{names-more}
 use Rattle.scans.proofs.names.named.Needs as need
 
 pub loop-pair-again : need.loop-pair-again

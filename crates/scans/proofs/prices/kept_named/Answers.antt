@@ -1,4 +1,4 @@
-use mathlib.Core.Bool.{Bool, true, _||_}
+use mathlib.Core.Bool.{Bool, true, _||_, or-false}
 use mathlib.Core.Path.{_≡_, sym, ap, ap₂, _∙_, fun-ext}
 use Prim.Native.Nat.{ℕ, _+_}
 use native.Mathlib.Omega.{arith}
@@ -10,7 +10,7 @@ use Rattle.rules.specs.Conditions.{condition, fromBytes}
 use Rattle.rules.specs.Judging.{knownDecisions}
 use Rattle.sets.specs.Members.{members}
 use Rattle.sets.specs.declared.decision_set.DecisionSet.{DecisionSet}
-use Rattle.scans.proofs.Gathered.{gather-kept, skip-spared, or-false}
+use Rattle.scans.proofs.Gathered.{gather-kept, skip-spared}
 use Rattle.scans.proofs.prices.kept_named.Needs as need
 use Rattle.scans.proofs.prices.kept_named.Needs.{then-is-kept, else-is-kept}
 
