@@ -8,7 +8,7 @@ use native.Mathlib.Omega.{arith}
 use lib.Dec.{eqb}
 use lib.ListN.{length}
 use Rattle.std.proofs.shelf.Tests.{or-left, eq-eqb, cases-bool}
-use Rattle.rules.specs.Conditions.{Plan, has, meets, names, condition, met}
+use Rattle.rules.specs.Conditions.{Plan, names, condition, met}
 use Rattle.rules.specs.declared.literal.Literal.{Literal}
 use Rattle.rules.specs.declared.row.Row.{Row}
 use Rattle.rules.proofs.Conditions.{meets-same, named-chosen}

@@ -22,7 +22,7 @@ use Rattle.rules.specs.declared.literal.Literal.{Literal}
 use Rattle.rules.specs.declared.row.Kind.the-variants.{Forbid, Activate, Price as Priced}
 use Rattle.rules.specs.declared.row.Row.{Row}
 use Rattle.account.specs.Accounts.{Account, Best}
-use Rattle.account.specs.Calls.{best, report}
+use Rattle.account.specs.Calls.{best}
 use Rattle.account.specs.Law.{samePairs, sameRule, SameRules, OneCost}
 use Rattle.account.specs.declared.state.State.the-variants.{Settled}
 use Rattle.account.proofs.Reports.{Told, told, least, none}

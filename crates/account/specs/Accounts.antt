@@ -4,12 +4,12 @@ use mathlib.Core.List.{List, [], _∷_}
 use Prim.Native.Nat.{ℕ, zero, suc}
 use lib.Dec.{eqb}
 use Rattle.std.specs.declared.option.Option.{Option}
-use Rattle.std.specs.declared.option.Option.the-variants.{None, Some}
+use Rattle.std.specs.declared.option.Option.the-variants.{None}
 use Rattle.rules.specs.Conditions.{Plan}
 use Rattle.rules.specs.Plans.{Book, Set}
 use Rattle.rules.specs.declared.decision.Decision.{Decision}
 use Rattle.account.specs.declared.state.State.{State}
-use Rattle.account.specs.declared.state.State.the-variants.{Open, Settled}
+use Rattle.account.specs.declared.state.State.the-variants.{Open}
 
 -- a choice on the trail: a decision, its value, and the decisions that made it active
 pub record Entry : Type 0 where

@@ -1,5 +1,5 @@
 -- The planning law, over any two lists of calls from an opening.
-use mathlib.Core.Bool.{Bool, true, false, cond, not, _&&_, _||_}
+use mathlib.Core.Bool.{Bool, true, false, _&&_}
 use mathlib.Core.List.{List, [], _∷_}
 use mathlib.Core.Logic.{_↔_}
 use mathlib.Core.Path.{_≡_}
@@ -18,10 +18,10 @@ use Rattle.rules.specs.declared.literal.Literal.{Literal}
 use Rattle.rules.specs.declared.row.Kind.{Kind}
 use Rattle.rules.specs.declared.row.Row.{Row}
 use Rattle.account.specs.Accounts.{Account, Exclusion, Best, fresh, chosen}
-use Rattle.account.specs.Calls.{Call, Answer, ran, reported, excluded, run, best, exclusion, answer, history, stepsSince}
+use Rattle.account.specs.Calls.{Call, ran, reported, excluded, run, best, exclusion, answer, history, stepsSince}
 use Rattle.account.specs.Changes.{held}
 use Rattle.account.specs.declared.state.State.{State}
-use Rattle.account.specs.declared.state.State.the-variants.{Open, Settled}
+use Rattle.account.specs.declared.state.State.the-variants.{Settled}
 
 -- whether two lists have the same pairs in the same order
 abbrev pub samePairs : List Literal → List Literal → Bool

@@ -1,5 +1,5 @@
 -- The measures that are supplied, each by its four meanings.
-use mathlib.Core.Bool.{Bool, true, false, cond, not, _&&_, _||_}
+use mathlib.Core.Bool.{not, _&&_, _||_}
 use Prim.Native.Nat.{ℕ, _+_, _-_, _^_, min, max}
 use lib.Dec.{leb}
 use Rattle.measure.specs.Meaning.{Meaning}

@@ -1,6 +1,6 @@
 -- The account after a call that leaves the rules alone.
 use mathlib.Core.Bool.{Bool, true, false, cond}
-use mathlib.Core.List.{List, [], _++_, map}
+use mathlib.Core.List.{List, _++_, map}
 use mathlib.Core.Logic.{⊎-elim}
 use mathlib.Core.Path.{_≡_, refl, sym, ap, ap₂, _∙_, fun-ext}
 use Prim.Native.Nat.{ℕ, zero, suc, _+_, _-_, _<_, _≤_}
@@ -8,21 +8,20 @@ use native.Mathlib.Nat.{add-zero, add-suc, sub-zero}
 use native.Mathlib.Numerals.{add-one}
 use native.Mathlib.Omega.{arith}
 use lib.Dec.{eqb, leb, ltb}
-use lib.ListN.{length, getD, set, take, drop, replicate, length-take}
+use lib.ListN.{length, getD, set, take, drop, length-take}
 use lib.Seq.{getD-set-same, getD-set-other, getD-take}
 use Rattle.std.proofs.shelf.Counted.{fill-by-all}
 use Rattle.std.proofs.shelf.Tests.{cases-eq, eq-eqb, ne-eqb, lt-leb, le-ltb}
 use Rattle.std.specs.Iters.{counting}
 use Rattle.std.specs.declared.option.Option.{Option}
 use Rattle.std.specs.declared.option.Option.the-variants.{None, Some}
-use Rattle.account.specs.Accounts.{Account, Best, Entry, Exclusion}
-use Rattle.account.specs.Calls.{Answer, Call, accepted, add, after, afterIf, answer, answerIf, best, leaves, made, ran, refusal, refused, report, reported, run, written}
+use Rattle.account.specs.Accounts.{Account, Best}
+use Rattle.account.specs.Calls.{Call, accepted, add, after, afterIf, answer, answerIf, best, leaves, made, ran, refusal, refused, report, reported, run, written}
 use Rattle.account.specs.Steps.{advance, advanceIn, oneIfOpen, step}
 use Rattle.account.specs.declared.state.State.{State}
 use Rattle.account.specs.declared.state.State.the-variants.{Open, Settled}
 use Rattle.measure.specs.Meaning.{Meaning}
 use Rattle.rules.specs.Conditions.{fromBytes}
-use Rattle.rules.specs.Plans.{Book}
 use Rattle.rules.specs.Judging.{rowRefusal}
 use Rattle.rules.specs.Refusals.{orElse, when}
 use Rattle.rules.specs.declared.decision.Decision.{Decision}

@@ -6,10 +6,9 @@ use Prim.Native.Nat.{ℕ, _+_, _<_}
 use lib.ListN.{length, getD, drop}
 use Rattle.measure.specs.Meaning.{Meaning}
 use Rattle.std.proofs.shelf.Lists.{at-drop-more}
-use Rattle.std.specs.declared.option.Option.{Option}
-use Rattle.std.specs.declared.option.Option.the-variants.{None, Some}
+use Rattle.std.specs.declared.option.Option.the-variants.{Some}
 use Rattle.std.specs.shelf.Lists.{kept-by}
-use Rattle.rules.specs.Compose.{isForbid, isActivate, isPrice}
+use Rattle.rules.specs.Compose.{isForbid, isPrice}
 use Rattle.rules.specs.Conditions.{Plan, met}
 use Rattle.rules.specs.Plans.{cost}
 use Rattle.rules.specs.Searches.{placeFrom}

@@ -1,21 +1,19 @@
 -- Parts that compose accepts make a row of the shape that every rule has.
-use mathlib.Core.Bool.{Bool, true, false, not, _&&_}
-use mathlib.Core.List.{List, _++_}
-use mathlib.Core.Path.{_≡_, refl, sym, ap, _∙_}
+use mathlib.Core.Bool.{true, not, _&&_}
+use mathlib.Core.List.{List}
+use mathlib.Core.Path.{_≡_, ap, _∙_}
 use Prim.Native.Nat.{ℕ, _-_, _≤_}
 use native.Mathlib.Omega.{arith}
 use lib.Dec.{leb, ltb}
-use lib.ListN.{length, take, replicate, length-append, length-replicate}
+use lib.ListN.{length, replicate, length-append, length-replicate}
 use lib.Seq.{take-append-le, take-length}
 use Rattle.std.proofs.shelf.Tests.{and-parts, not-false, leb-true}
-use Rattle.std.specs.declared.option.Option.{Option}
-use Rattle.std.specs.declared.option.Option.the-variants.{None, Some}
+use Rattle.std.specs.declared.option.Option.the-variants.{None}
 use Rattle.measure.specs.declared.price.Price.{Price}
 use Rattle.rules.specs.Compose.{ascends, composeRefusal, composed, blank, isPrice}
 use Rattle.rules.specs.Conditions.{condition}
 use Rattle.rules.specs.Refusals.{when, orElse}
 use Rattle.rules.specs.declared.literal.Literal.{Literal}
-use Rattle.rules.specs.declared.refusal.Refusal.{Refusal}
 use Rattle.rules.specs.declared.refusal.Refusal.the-variants.{PairCount, NotAscending, CentsTooLarge}
 use Rattle.rules.specs.declared.row.Kind.{Kind}
 use Rattle.rules.specs.declared.row.Row.{Row}

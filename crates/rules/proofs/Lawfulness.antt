@@ -1,17 +1,17 @@
 -- The test of lawfulness that is worked out says what lawful means.
-use mathlib.Core.Bool.{Bool, true, false, cond, not, Bool·beq, _&&_, _||_}
+use mathlib.Core.Bool.{Bool, true, false, not, Bool·beq}
 use mathlib.Core.List.{List, [], _∷_}
-use mathlib.Core.Logic.{_⊎_, inl, inr, ⊎-elim}
-use mathlib.Core.Path.{_≡_, refl, sym, ap, _∙_}
-use Prim.Native.Nat.{ℕ, zero, suc, _+_, _<_, _≤_}
+use mathlib.Core.Logic.{_⊎_, ⊎-elim}
+use mathlib.Core.Path.{_≡_, refl, sym, _∙_}
+use Prim.Native.Nat.{ℕ, zero, suc, _<_, _≤_}
 use native.Mathlib.Omega.{arith}
 use lib.Dec.{ltb, leb}
-use lib.ListN.{length, getD}
-use Rattle.std.proofs.shelf.Tests.{and-parts, and-from, cases-lt, cases-eq, lt-ltb, ltb-true, leb-true, le-leb, not-true, not-from-false, false≢true}
+use lib.ListN.{length}
+use Rattle.std.proofs.shelf.Tests.{and-parts, and-from, cases-lt, cases-eq, lt-ltb, ltb-true, leb-true, le-leb, not-true, not-from-false}
 use Rattle.std.specs.shelf.Lists.{All}
 use Rattle.rules.specs.Conditions.{Plan, met}
 use Rattle.rules.specs.Judging.{Fits, FitsBelow}
-use Rattle.rules.specs.Plans.{Book, Active, active, Lawful, allBelow, meetsNone, fits, isLawful, sizeAt, onAt}
+use Rattle.rules.specs.Plans.{Book, active, Lawful, allBelow, meetsNone, fits, isLawful, sizeAt}
 use Rattle.rules.specs.declared.row.Row.{Row}
 use Rattle.rules.proofs.Activity.{Targets, active-sound, active-complete, active-known}
 

@@ -1,26 +1,23 @@
 -- What the loops of judging find is what a verdict says.
 use mathlib.Core.Bool.{Bool, true, false, cond, not, _&&_, _||_}
 use mathlib.Core.List.{List, [], _∷_}
-use mathlib.Core.Logic.{_⊎_, inl, inr, ⊎-elim}
+use mathlib.Core.Logic.{_⊎_, ⊎-elim}
 use mathlib.Core.Path.{_≡_, refl, sym, ap, _∙_, subst, fun-ext}
-use Prim.Native.Nat.{ℕ, zero, suc, _+_, _-_, _<_, _≤_}
+use Prim.Native.Nat.{ℕ, suc, _+_, _-_, _<_, _≤_}
 use native.Mathlib.Nat.{sub-zero}
-use native.Mathlib.Numerals.{add-one}
 use native.Mathlib.Omega.{arith}
-use lib.Dec.{eqb, ltb, leb}
+use lib.Dec.{eqb, ltb}
 use lib.ListN.{length, getD, take, length-take, List·getD-eq-default}
 use lib.Seq.{getD-take}
-use Rattle.std.proofs.shelf.Elements.{all-weaker}
 use Rattle.std.proofs.shelf.Tests.{and-parts, not-false, ltb-true, ltb-false, lt-ltb, le-ltb, eqb-true, eqb-false, cases-lt, false≢true, both-ways}
-use Rattle.std.specs.declared.option.Option.{Option}
 use Rattle.std.specs.declared.option.Option.the-variants.{None, Some}
-use Rattle.std.specs.shelf.Lists.{All, kept-by}
-use Rattle.rules.specs.Compose.{isActivate, isForbid}
+use Rattle.std.specs.shelf.Lists.{All}
+use Rattle.rules.specs.Compose.{isActivate}
 use Rattle.rules.specs.Conditions.{Plan, met, condition, fromBytes, planOf}
 use Rattle.rules.specs.Judging.{openRefusal, rowRefusal, rowsRefusal, judgeRefusal, knownDecisions, knownValues, sized, bookOf, Fits, FitsBelow, FirstMet, Breaks}
-use Rattle.rules.specs.Plans.{Book, Active, Lawful, active, sizeAt}
+use Rattle.rules.specs.Plans.{Book, Lawful, active, sizeAt}
 use Rattle.std.specs.declared.result.Result.the-variants.{Ok}
-use Rattle.rules.specs.Refusals.{when, orElse, asResult}
+use Rattle.rules.specs.Refusals.{when, asResult}
 use Rattle.rules.specs.Searches.{misfit, misfitAt, FirstMisfit, placeFrom, TargetsBelow}
 use Rattle.rules.specs.declared.decision.Decision.{Decision}
 use Rattle.rules.specs.declared.refusal.Refusal.the-variants.{TooManyDecisions, SizeOutOfRange, UnknownDecision, UnknownValue}

@@ -1,16 +1,15 @@
 -- What rows from each place on cost, as a loop from the last place works it out.
-use mathlib.Core.Bool.{Bool, cond}
 use mathlib.Core.List.{List}
 use mathlib.Core.Logic.{⊎-elim}
 use mathlib.Core.Path.{_≡_, sym, ap, _∙_}
-use Prim.Native.Nat.{ℕ, suc, _+_, _-_, _<_, _≤_}
+use Prim.Native.Nat.{ℕ, _+_, _-_, _<_, _≤_}
 use native.Mathlib.Omega.{arith}
 use lib.ListN.{length, getD, set, drop}
 use lib.Seq.{getD-set-same, getD-set-other}
 use Rattle.std.proofs.shelf.Lists.{at-drop-more, at-drop-all}
 use Rattle.std.proofs.shelf.Tests.{cases-eq}
 use Rattle.measure.specs.Meaning.{Meaning}
-use Rattle.rules.specs.Conditions.{Plan, met}
+use Rattle.rules.specs.Conditions.{Plan}
 use Rattle.rules.specs.Plans.{cost}
 use Rattle.rules.specs.declared.row.Row.{Row}
 use Rattle.scans.specs.Suffixes.{Suffixes, priced}

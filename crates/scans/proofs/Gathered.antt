@@ -1,14 +1,13 @@
 -- Sets that a loop gathers from the pairs of a condition, or from rows.
 use mathlib.Core.Bool.{Bool, true, false, cond, not, _&&_, _||_, and-true, and-false, or-assoc}
 use mathlib.Core.List.{List, [], _∷_}
-use mathlib.Core.Logic.{⊎-elim}
 use mathlib.Core.Path.{_≡_, refl, sym, ap, ap₂, _∙_}
-use Prim.Native.Nat.{ℕ, zero, suc, _+_, _<_, _≤_}
+use Prim.Native.Nat.{ℕ, zero, suc, _+_, _<_}
 use native.Mathlib.Omega.{arith}
 use lib.Dec.{eqb, ltb}
 use lib.ListN.{length, getD, drop}
 use Rattle.std.proofs.shelf.Lists.{at-drop-more}
-use Rattle.std.proofs.shelf.Tests.{and-parts, ltb-true, lt-ltb, eqb-true, cases-bool}
+use Rattle.std.proofs.shelf.Tests.{and-parts, ltb-true, lt-ltb, eqb-true}
 use Rattle.account.specs.Steps.{enabledBy, kept, namedIn}
 use Rattle.measure.specs.Meaning.{Meaning}
 use Rattle.rules.specs.Conditions.{Plan, condition, met, names}

@@ -1,4 +1,3 @@
-use mathlib.Core.Path.{_∙_}
 use native.Mathlib.Omega.{arith}
 use Rattle.rules.specs.Conditions.{fromBytes}
 use Rattle.sets.specs.Members.{members}

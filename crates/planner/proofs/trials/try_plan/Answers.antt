@@ -1,4 +1,4 @@
-use mathlib.Core.Path.{_≡_, sym, ap, _∙_}
+use mathlib.Core.Path.{sym, ap, _∙_}
 use Rattle.rules.specs.Conditions.{fromBytes}
 use Rattle.sets.specs.Members.{members}
 use Rattle.planner.specs.Books.{bookOf}

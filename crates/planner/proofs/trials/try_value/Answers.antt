@@ -1,10 +1,9 @@
-use mathlib.Core.Path.{_≡_, sym, ap, _∙_}
-use Rattle.std.specs.declared.option.Option.{Option}
+use mathlib.Core.Path.{sym}
 use Rattle.rules.specs.Conditions.{fromBytes}
-use Rattle.tables.specs.Excluded.{asExclusion, exclusionsOf}
+use Rattle.tables.specs.Excluded.{exclusionsOf}
 use Rattle.planner.specs.Books.{bookOf}
 use Rattle.planner.specs.Trials.{tryPlan}
-use Rattle.planner.proofs.Trying.{tried-already, tried-free, tried-put, some-exclusion, none-exclusion}
+use Rattle.planner.proofs.Trying.{tried-already, some-exclusion}
 use Rattle.planner.proofs.trials.try_value.Needs as need
 
 pub returns-then-is-some : need.returns-then-is-some

@@ -1,6 +1,6 @@
 use mathlib.Core.Path.{_≡_}
-use lib.ListN.{drop, length}
-use Rattle.rules.specs.Judging.{sized, hasSize}
+use lib.ListN.{drop}
+use Rattle.rules.specs.Judging.{sized}
 use Rattle.rules.proofs.checks.all_sized.Given as given
 
 abbrev pub Inv-loop-decision : given.InvT-loop-decision

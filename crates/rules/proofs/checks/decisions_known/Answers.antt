@@ -1,6 +1,6 @@
-use mathlib.Core.Path.{_≡_, refl, sym, _∙_}
-use lib.Dec.{leb, ltb}
-use lib.ListN.{getD, length}
+use mathlib.Core.Path.{refl, sym, _∙_}
+use lib.Dec.{ltb}
+use lib.ListN.{getD}
 use Rattle.std.proofs.shelf.Lists.{at-drop-all}
 use Rattle.rules.specs.Judging.{knownDecisions}
 use Rattle.std.proofs.shelf.Tests.{lt-ltb, le-ltb}

@@ -1,7 +1,6 @@
 use mathlib.Core.Path.{_≡_}
-use lib.ListN.{drop, length}
+use lib.ListN.{drop}
 use Rattle.rules.specs.Judging.{knownDecisions}
-use Rattle.std.proofs.shelf.Tests.{lt-ltb, le-ltb}
 use Rattle.rules.proofs.checks.decisions_known.Given as given
 
 abbrev pub Inv-loop-pair : given.InvT-loop-pair

@@ -1,6 +1,5 @@
-use mathlib.Core.Path.{_≡_, refl, sym, _∙_}
-use lib.Dec.{leb, ltb}
-use lib.ListN.{getD, length}
+use mathlib.Core.Path.{refl, sym, _∙_}
+use lib.ListN.{getD}
 use Rattle.std.proofs.shelf.Lists.{at-drop-all}
 use Rattle.rules.specs.Judging.{knownValues, knownValue}
 use Rattle.rules.specs.Compose.{blank}

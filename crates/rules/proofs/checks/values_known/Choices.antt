@@ -1,6 +1,6 @@
 use mathlib.Core.Path.{_≡_}
-use lib.ListN.{drop, length}
-use Rattle.rules.specs.Judging.{knownValues, knownValue}
+use lib.ListN.{drop}
+use Rattle.rules.specs.Judging.{knownValues}
 use Rattle.rules.proofs.checks.values_known.Given as given
 
 abbrev pub Inv-loop-pair : given.InvT-loop-pair

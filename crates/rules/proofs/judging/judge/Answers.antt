@@ -1,11 +1,9 @@
-use mathlib.Core.Path.{_≡_, sym, ap, subst, _∙_}
+use mathlib.Core.Path.{sym, ap, subst, _∙_}
 use lib.ListN.{length}
-use Rattle.std.specs.declared.option.Option.the-variants.{None}
 use Rattle.rules.specs.Conditions.{Plan}
-use Rattle.rules.specs.Judging.{Breaks, bookOf, judgeRefusal, openRefusal, rowsRefusal}
+use Rattle.rules.specs.Judging.{Breaks, bookOf}
 use Rattle.rules.specs.Plans.{Lawful, cost}
 use Rattle.rules.proofs.ByKind.{prices}
-use Rattle.rules.proofs.Grounds.{accepted-none}
 use Rattle.rules.proofs.Verdicts.{plan-part, judge-accepts}
 use Rattle.rules.proofs.judging.judge.Needs as need
 

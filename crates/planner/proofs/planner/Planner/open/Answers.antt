@@ -1,7 +1,7 @@
-use mathlib.Core.Path.{_≡_, sym, ap, _∙_}
+use mathlib.Core.Path.{sym, ap, _∙_}
 use Rattle.std.proofs.shelf.Results.{err-from-errBy}
 use Rattle.account.proofs.Planning.{planning}
-use Rattle.account.specs.Accounts.{Account, fresh}
+use Rattle.account.specs.Accounts.{fresh}
 use Rattle.measure.proofs.Laws.{Laws}
 use Rattle.rules.proofs.Grounds.{accepted-none, refused-old}
 use Rattle.rules.specs.Judging.{openRefusal}

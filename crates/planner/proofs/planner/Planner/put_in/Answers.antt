@@ -1,4 +1,3 @@
-use mathlib.Core.Path.{_≡_, sym, ap, _∙_}
 use Rattle.planner.specs.Books.{bookOf}
 use Rattle.planner.specs.Planners.{accountOf}
 use Rattle.planner.proofs.Reopened.{activate-added, forbid-added, price-added}

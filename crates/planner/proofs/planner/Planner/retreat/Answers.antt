@@ -1,4 +1,3 @@
-use mathlib.Core.Path.{_≡_}
 use Rattle.sets.specs.Members.{members}
 use Rattle.tables.specs.Entries.{entryOf}
 use Rattle.tables.specs.Excluded.{exclusionsOf}

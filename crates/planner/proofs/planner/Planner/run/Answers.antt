@@ -1,4 +1,4 @@
-use mathlib.Core.Path.{_≡_, refl, sym, ap, _∙_}
+use mathlib.Core.Path.{refl, sym, _∙_}
 use native.Mathlib.Omega.{arith}
 use Rattle.planner.specs.Planners.{accountOf}
 use Rattle.planner.proofs.Called.{open-more, not-open, ran-whole, spent}

@@ -1,5 +1,5 @@
 use borrow.Author.Needs.{needs}
-use mathlib.Core.Path.{_≡_, sym, ap, _∙_}
+use mathlib.Core.Path.{sym, ap, _∙_}
 use Rattle.account.specs.Steps.{stepAt}
 use Rattle.rules.specs.Conditions.{fromBytes}
 use Rattle.planner.specs.Planners.{accountOf}

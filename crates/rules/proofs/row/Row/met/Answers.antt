@@ -1,4 +1,4 @@
-use mathlib.Core.Path.{_≡_, refl, sym, ap, _∙_}
+use mathlib.Core.Path.{refl, sym, ap, _∙_}
 use lib.ListN.{getD}
 use Rattle.std.proofs.shelf.Lists.{at-drop-all}
 use Rattle.rules.specs.Compose.{blank}
