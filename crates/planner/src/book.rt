@@ -10,6 +10,7 @@ use tables::RuleTable;
 mod holding;
 
 /// Up to 64 decisions of 1 to 16 values, and the rules of each kind.
+#[derive(Drop)]
 pub struct Book {
     decisions: [Decision; 64],
     count: usize,

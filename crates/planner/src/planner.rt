@@ -12,6 +12,7 @@ mod changes;
 mod steps;
 
 /// A planner of fixed size over the costs of a measure.
+#[derive(Drop)]
 pub struct Planner<M> {
     book: Book,
     ranks: [u8; 64],

@@ -15,6 +15,7 @@ use sets::ValueSet;
 
 /// For each of 64 decisions its excluded values, which of them rest on the best, and the reason of each: that of value
 /// `v` of decision `d` stands at `16 * d + v - 1`, as the bits of a set of decisions.
+#[derive(Drop)]
 pub struct Exclusions {
     excluded: [ValueSet; 64],
     resting: [ValueSet; 64],

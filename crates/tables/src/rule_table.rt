@@ -9,6 +9,7 @@ use rules::Row;
 mod rows;
 
 /// Up to 256 rules as plain rows, in place order.
+#[derive(Drop)]
 pub struct RuleTable {
     rows: [Row; 256],
     count: usize,

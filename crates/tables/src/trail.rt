@@ -11,6 +11,7 @@ mod moves;
 
 /// The choices of a planner, the oldest first, no decision twice; beside them the value of each decision, 0 if it is
 /// not on the trail.
+#[derive(Drop)]
 pub struct Trail {
     entries: [Entry; 64],
     count: usize,
