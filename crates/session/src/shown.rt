@@ -74,11 +74,14 @@ pub struct Members(pub DecisionSet);
 pub impl fmt::Display for Members as MembersDisplay {
     fn fmt<W: fmt::Write>(&self, f: &mut fmt::Formatter<W>) -> fmt::Result {
         write!(f, "{{")?;
-        let mut gap = "";
+        let mut first = true;
         for decision in 0..64u8 {
             if self.0.has(decision) {
-                write!(f, "{gap}{decision}")?;
-                gap = " ";
+                if !first {
+                    write!(f, " ")?;
+                }
+                write!(f, "{decision}")?;
+                first = false;
             }
         }
         write!(f, "}}")
@@ -91,11 +94,12 @@ struct Pairs<'a>(&'a [Literal]);
 
 impl fmt::Display for Pairs<'_> as PairsDisplay {
     fn fmt<W: fmt::Write>(&self, f: &mut fmt::Formatter<W>) -> fmt::Result {
-        let mut gap = "";
-        for pair in self.0 {
+        for (i, pair) in self.0.iter().enumerate() {
+            if i > 0 {
+                write!(f, " ")?;
+            }
             let Literal { decision, value } = *pair;
-            write!(f, "{gap}{decision}={value}")?;
-            gap = " ";
+            write!(f, "{decision}={value}")?;
         }
         Ok(())
     }
