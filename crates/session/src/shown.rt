@@ -111,12 +111,14 @@ pub struct Stated(pub Row);
 
 pub impl fmt::Display for Stated as StatedDisplay {
     fn fmt<W: fmt::Write>(&self, f: &mut fmt::Formatter<W>) -> fmt::Result {
-        let row = self.0;
-        let pairs = Pairs(row.condition());
-        match row.kind {
+        let kind = self.0.kind;
+        let target = self.0.target;
+        let price = self.0.price;
+        let pairs = Pairs(self.0.condition());
+        match kind {
             Kind::Forbid => write!(f, "forbid {pairs}"),
-            Kind::Activate => write!(f, "activate {} by {pairs}", row.target),
-            Kind::Price => write!(f, "price {pairs} ({}, {})", row.price.tier, row.price.cents),
+            Kind::Activate => write!(f, "activate {target} by {pairs}"),
+            Kind::Price => write!(f, "price {pairs} ({}, {})", price.tier, price.cents),
         }
     }
 }
