@@ -62,7 +62,7 @@ fn load_book<M: Measure>(
     for rule in rules {
         planner.add(rule)?;
     }
-    println!(rt, "the worked book again: open and {} rules", rules.len())?;
+    println!(rt, "open, and add the {} rules again: done", rules.len())?;
     Ok(())
 }
 
@@ -89,12 +89,13 @@ fn lose_a_price(rt: &impl Print, planner: &mut Planner<Cents>) -> io::Result<()>
     calls::exclusions(rt, planner)
 }
 
-/// The first steps again, up to an exclusion that has a reason, and then the rest.
+/// The same search again, stopped where exclusions have reasons.
 fn settle_again(
     rt: &impl Print,
     planner: &mut Planner<Cents>,
     rules: &[Rule],
 ) -> Result<(), Trouble> {
+    println!(rt, "== with reasons ==")?;
     load_book(rt, planner, rules)?;
     calls::run(rt, planner, 3)?;
     calls::exclusions(rt, planner)?;

@@ -74,11 +74,14 @@ pub struct Members(pub DecisionSet);
 pub impl fmt::Display for Members as MembersDisplay {
     fn fmt<W: fmt::Write>(&self, f: &mut fmt::Formatter<W>) -> fmt::Result {
         write!(f, "{{")?;
-        let mut gap = "";
+        let mut first = true;
         for decision in 0..64u8 {
             if self.0.has(decision) {
-                write!(f, "{gap}{decision}")?;
-                gap = " ";
+                if !first {
+                    write!(f, " ")?;
+                }
+                write!(f, "{decision}")?;
+                first = false;
             }
         }
         write!(f, "}}")
@@ -91,11 +94,12 @@ struct Pairs<'a>(&'a [Literal]);
 
 impl fmt::Display for Pairs<'_> as PairsDisplay {
     fn fmt<W: fmt::Write>(&self, f: &mut fmt::Formatter<W>) -> fmt::Result {
-        let mut gap = "";
-        for pair in self.0 {
+        for (i, pair) in self.0.iter().enumerate() {
+            if i > 0 {
+                write!(f, " ")?;
+            }
             let Literal { decision, value } = *pair;
-            write!(f, "{gap}{decision}={value}")?;
-            gap = " ";
+            write!(f, "{decision}={value}")?;
         }
         Ok(())
     }
@@ -107,12 +111,14 @@ pub struct Stated(pub Row);
 
 pub impl fmt::Display for Stated as StatedDisplay {
     fn fmt<W: fmt::Write>(&self, f: &mut fmt::Formatter<W>) -> fmt::Result {
-        let row = self.0;
-        let pairs = Pairs(row.condition());
-        match row.kind {
+        let kind = self.0.kind;
+        let target = self.0.target;
+        let price = self.0.price;
+        let pairs = Pairs(self.0.condition());
+        match kind {
             Kind::Forbid => write!(f, "forbid {pairs}"),
-            Kind::Activate => write!(f, "activate {} by {pairs}", row.target),
-            Kind::Price => write!(f, "price {pairs} ({}, {})", row.price.tier, row.price.cents),
+            Kind::Activate => write!(f, "activate {target} by {pairs}"),
+            Kind::Price => write!(f, "price {pairs} ({}, {})", price.tier, price.cents),
         }
     }
 }
