@@ -34,6 +34,7 @@ struct Entry {
 pub struct Plain {
     sizes: Vec<u8>,
     on: u64,
+    ranks: [u8; 64],
     forbids: Vec<Row>,
     activates: Vec<Row>,
     prices: Vec<Row>,
@@ -68,6 +69,7 @@ impl Plain {
         Plain {
             sizes: book.decisions.iter().map(|d| d.size).collect(),
             on: marked.fold(0, |set, (i, _)| set | 1 << i),
+            ranks: [0; 64],
             forbids: rows(Kind::Forbid),
             activates: rows(Kind::Activate),
             prices: rows(Kind::Price),
@@ -98,8 +100,8 @@ impl Plain {
                 active |= 1 << row.target;
             }
         }
-        // All ranks are 0, so the lowest number is picked.
-        match (0..self.sizes.len()).find(|&d| self.plan[d] == 0 && active >> d & 1 == 1) {
+        let waiting = (0..self.sizes.len()).filter(|&d| self.plan[d] == 0 && active >> d & 1 == 1);
+        match waiting.min_by_key(|&d| self.ranks[d]) {
             Some(d) => self.extend(d),
             None => self.conclude(),
         }
