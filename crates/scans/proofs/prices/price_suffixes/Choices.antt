@@ -8,4 +8,4 @@ use Rattle.scans.proofs.prices.price_suffixes.Given as given
 abbrev pub Inv-loop-i : given.InvT-loop-i
 Inv-loop-i g l =
     (length (l .after) ≡ 257)
-        × (Suffixes (g .M·Measure .meaning) (l .rows) (fromBytes (l .plan)) (l .after) (l .i) × (l .cost ≡ cost (g .M·Measure .meaning) (drop (l .i) (l .rows)) (fromBytes (l .plan))))
+    × (Suffixes (g .M·Measure .meaning) (l .rows) (fromBytes (l .plan)) (l .after) (l .i) × (l .cost ≡ cost (g .M·Measure .meaning) (drop (l .i) (l .rows)) (fromBytes (l .plan))))
