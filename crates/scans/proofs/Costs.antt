@@ -22,6 +22,10 @@ module _ {C : Type 0} (m : Meaning C) (rs : List Row) (p : Plan) where
   pub cost-before : (i : ℕ) (d : Row) → i < length rs → (c later : C) → c ≡ priced m p (getD rs i d) later → later ≡ cost m (drop (i + 1) rs) p → c ≡ cost m (drop i rs) p
   cost-before i d l c later e f = e ∙ ap (priced m p (getD rs i d)) f ∙ sym (cost-at i d l)
 
+  -- past the last row the cost is neutral
+  pub cost-none : (c : C) → c ≡ m .neutral → c ≡ cost m (drop (length rs) rs) p
+  cost-none c e = e ∙ sym (at-drop-all (λ (xs : List Row). cost m xs p) rs (length rs) (omega arith))
+
   -- past the last row stands neutral
   pub suffixes-none : (costs : List C) (c : C) → length rs < length costs → c ≡ m .neutral → Suffixes m rs p (set costs (length rs) c) (length rs)
   suffixes-none costs c room e k d low high =

@@ -20,10 +20,10 @@ pub fn price_suffixes<M: Measure>(rows: &[Row], plan: &[u8], after: &mut [M; 257
     ensures long { λ _. ⌜ length (now (after .exit)) ≡ 257 ⌝ }
     ensures value { λ _. ⌜ Suffixes meaning (now (rows .entry)) (fromBytes (now (plan .entry))) (now (after .exit)) 0 ⌝ }
 {
-    after[rows.len()] = M::neutral();
+    let mut cost = M::neutral();
+    after[rows.len()] = cost;
     for i in (0..rows.len()).rev() {
-        let later = after[i + 1];
-        let cost = price_before(&rows[i], plan, later);
+        cost = price_before(&rows[i], plan, cost);
         after[i] = cost;
     }
 }
