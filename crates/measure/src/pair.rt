@@ -1,6 +1,6 @@
 //! The measure made of two measures.
 ghost use Rattle.measure.specs.Supplied.{pair_of};
-ghost use Rattle.measure.specs.Sides.{sides_total, sides_equal, sides_least};
+ghost use Rattle.measure.specs.Sides.{sides_total, sides_transitive, sides_equal, sides_least};
 ghost use Rattle.measure.specs.PairMeasureLemmas.{both};
 ghost use Rattle.std.proofs.Common.{rules};
 
@@ -26,7 +26,14 @@ impl<A: Measure, B: Measure> Measure for Pair<A, B> {
         let le = A.Measure.meaning.at_most in
         sides_total (le a.first b.first) (le b.first a.first) _ _ (B.Measure.order_is_total a.second b.second) };
 
-    ghost order_is_transitive = { Prim.search rules };
+    ghost order_is_transitive = { λ a b c.
+        let le = A.Measure.meaning.at_most in
+        sides_transitive _ (le b.first a.first) _ (le b.first c.first) (le c.first b.first) _ _ _ _
+        (A.Measure.order_is_total a.first b.first)
+        (A.Measure.order_is_transitive a.first b.first c.first)
+        (A.Measure.order_is_transitive c.first a.first b.first)
+        (A.Measure.order_is_transitive b.first c.first a.first)
+        (B.Measure.order_is_transitive a.second b.second c.second) };
 
     ghost each_at_most_the_other_is_equal = { λ a b h k.
         let e = sides_equal _ _ _ _ (A.Measure.order_is_total a.first b.first) h k in

@@ -7,5 +7,5 @@ use Rattle.sets.proofs.value_set.ValueSet.count_outside.Goals as goal
 
 pub returns : goal.returns
 returns c =
-    ap (λ (m : ℕ). ones (bit_and (65535 - c.args.self.bits) m)) c.first-bits.ensures
+    ap (λ (m : ℕ). ones (bit_and (65535 - c.args.self.bits) m)) c.first_bits.ensures
     ∙ count_by_ones c.args.self (min c.args.size 16) (omega arith) (omega arith)
