@@ -47,14 +47,17 @@ def declared(top):
     for path in files(top, ".antt"):
         if os.path.basename(path) in MADE and os.path.basename(os.path.dirname(path)) not in ("specs", "proofs"):
             continue
-        within = False
+        head = None
         for line in open(path, encoding="utf-8"):
-            if line.strip() and not line[0].isspace():
-                within = bool(HEAD.match(line))
+            deep = len(line) - len(line.lstrip())
+            if HEAD.match(line):
+                head = deep
+            elif line.strip() and head is not None and deep <= head:
+                head = None
             m = DECLARED.match(line)
             if m and m.group(2) not in WORDS and old(m.group(2)):
                 names.add(m.group(2))
-                if within:
+                if head is not None:
                     fields.add(m.group(2))
     return names, fields
 

@@ -70,9 +70,9 @@ module _ (ds : List Decision) (s : Set) where
             rest = p.rest;
             shorter = omega (arith, p.shorter);
             distinct = p.distinct;
-            culprit_low = p.culprit-low;
-            culprit_high = p.culprit-high;
-            culprit_blamed = p.culprit-blamed;
+            culprit_low = p.culprit_low;
+            culprit_high = p.culprit_high;
+            culprit_blamed = p.culprit_blamed;
             latest = later;
             below = λ x k. chosen_more e es h.1 x (p.below x k);
             gone = ((size_known ds e.decision (omega arith), off), p.gone);
@@ -88,9 +88,9 @@ module _ (ds : List Decision) (s : Set) where
             rest = ap (λ (l : List Entry). e ∷ l) p.rest;
             shorter = omega (arith, p.shorter);
             distinct = p.distinct;
-            culprit_low = p.culprit-low;
-            culprit_high = p.culprit-high;
-            culprit_blamed = p.culprit-blamed;
+            culprit_low = p.culprit_low;
+            culprit_high = p.culprit_high;
+            culprit_blamed = p.culprit_blamed;
             latest = later;
             below = λ x k. chosen_more e es h.1 x (p.below x k);
             gone = p.gone;
@@ -115,10 +115,10 @@ module _ (ds : List Decision) (s : Set) where
   module _ (es : List Entry) (h : Distinct ds es) (ex : Excluded) (rests : Bool) (within : Within es s) (r : Retreat) (p : Parted es r)
       (free : (d : ℕ) → 0 < chosen es d → ex d (chosen es d) ≡ None) where
     culprit_chosen : chosen es r.culprit.decision ≡ r.culprit.value
-    culprit_chosen = p.latest r.culprit.decision p.culprit-blamed ∙ chosen_here r.culprit p.older r.culprit.decision refl
+    culprit_chosen = p.latest r.culprit.decision p.culprit_blamed ∙ chosen_here r.culprit p.older r.culprit.decision refl
 
     was_free : ex r.culprit.decision r.culprit.value ≡ None
-    was_free = rw culprit_chosen at (free r.culprit.decision (rw culprit_chosen p.culprit-low))
+    was_free = rw culprit_chosen at (free r.culprit.decision (rw culprit_chosen p.culprit_low))
 
     none_left : (t : Set) → lies (length ds) p.older t ≡ true → (left : List ℕ) → All (λ x. (x < length ds) × (chosen p.older x ≡ 0)) left → has_any t left ≡ false
     none_left t k [] g = refl
@@ -161,7 +161,7 @@ module _ (ds : List Decision) (s : Set) where
         rw (p.whole, p.rest)
         (height_rises ds ex (relearn ex s rests r) p.older p.newer p.staying long less
         (digits_rises ds ex (relearn ex s rests r) p.older p.distinct stay
-        (inside_rises ds ex (relearn ex s rests r) p.older stay r.culprit.decision r.culprit.value (record { reason = except s r.culprit.decision; rests = rests }) was_free learnt reason_lies p.culprit-low p.culprit-high)))
+        (inside_rises ds ex (relearn ex s rests r) p.older stay r.culprit.decision r.culprit.value (record { reason = except s r.culprit.decision; rests = rests }) was_free learnt reason_lies p.culprit_low p.culprit_high)))
 
   -- a retreat raises the number
   pub retreat_rises : (es : List Entry) → Distinct ds es → (ex : Excluded) (rests : Bool) → Within es s → (r : Retreat) → retreat s es ≡ Some r → ((d : ℕ) → 0 < chosen es d → ex d (chosen es d) ≡ None) → height ds ex es < height ds (relearn ex s rests r) r.stays

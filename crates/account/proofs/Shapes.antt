@@ -54,8 +54,8 @@ module _ {C : Type 0} (m : Meaning C) (laws : Laws m) where
   tested_formed a f d idle =
       record {
         distinct = f.distinct;
-        in_range = λ x v e h. ⊎_elim (λ k. f.in_range x v e k) (λ (k : New m a d x v e). (k.low, rw k.is-picked k.high)) (tested_some m a d x v e h);
-        reasoned = λ x v e h y t. ⊎_elim (λ k. f.reasoned x v e k y t) (λ (k : New m a d x v e). new v e k.is-given y t) (tested_some m a d x v e h);
+        in_range = λ x v e h. ⊎_elim (λ k. f.in_range x v e k) (λ (k : New m a d x v e). (k.low, rw k.is_picked k.high)) (tested_some m a d x v e h);
+        reasoned = λ x v e h y t. ⊎_elim (λ k. f.reasoned x v e k y t) (λ (k : New m a d x v e). new v e k.is_given y t) (tested_some m a d x v e h);
         free = λ x h. tested_other m a d x (chosen a.trail x) (λ (q : x ≡ d). omega (arith, idle, ap (chosen a.trail) q)) ∙ f.free x h;
       }
     where

@@ -35,7 +35,7 @@ module _ {C : Type 0} (m : Meaning C) (laws : Laws m) where
           grounded = s.grounded;
           unforbidden = s.unforbidden;
           barred = λ x v e h p law has agrees. ⊎_elim (λ k. s.barred x v e k p law has agrees) (λ k. new x v e k p law has agrees) (tested_some m a d x v e h);
-          resting = λ x v e h r. ⊎_elim (λ k. s.resting x v e k r) (λ (k : New m a d x v e). given_rests m a d (choose (chosen a.trail) d v) laws e k.is-given r) (tested_some m a d x v e h);
+          resting = λ x v e h r. ⊎_elim (λ k. s.resting x v e k r) (λ (k : New m a d x v e). given_rests m a d (choose (chosen a.trail) d v) laws e k.is_given r) (tested_some m a d x v e h);
           best_good = s.best_good;
           settled = s.settled;
         }
@@ -45,9 +45,9 @@ module _ {C : Type 0} (m : Meaning C) (laws : Laws m) where
 
         new : (x v : ℕ) (e : Exclusion) → New m a d x v e → (p : Plan) → Lawful a.book p → p x ≡ v → Agrees p (chosen a.trail) e.reason → RulesOut m a e.rests p
         new x v e k p law has agrees =
-            given_bars m a d (choose (chosen a.trail) d v) laws e k.is-given p law
-            (λ y r. agrees y r ∙ sym (chosen_other (entry v) a.trail y (given_within m a d (choose (chosen a.trail) d v) laws e k.is-given y r).1))
-            (ap p (sym k.is-picked) ∙ has ∙ sym (chosen_here (entry v) a.trail d refl))
+            given_bars m a d (choose (chosen a.trail) d v) laws e k.is_given p law
+            (λ y r. agrees y r ∙ sym (chosen_other (entry v) a.trail y (given_within m a d (choose (chosen a.trail) d v) laws e k.is_given y r).1))
+            (ap p (sym k.is_picked) ∙ has ∙ sym (chosen_here (entry v) a.trail d refl))
 
     -- with a free value entered
     entered_sound : (v : ℕ) → 1 ≤ v → v ≤ size_at a.book.decisions d → tested m a d d v ≡ None → Sound m (enter (with_exclusions a (tested m a d)) d (Some v))
@@ -129,13 +129,13 @@ module _ {C : Type 0} (m : Meaning C) (laws : Laws m) where
             unforbidden = s.unforbidden;
             barred = λ d v e h p law has agrees. still e.rests p (s.barred d v e h p law has agrees);
             resting = λ d v e h r. (best, refl);
-            best_good = λ b q. rw (← some_same best b q) c.is-good;
-            settled = λ e p law. c.no-worse p (s.settled e p law);
+            best_good = λ b q. rw (← some_same best b q) c.is_good;
+            settled = λ e p law. c.no_worse p (s.settled e p law);
           }
         where
           still : (r : Bool) (p : Plan) → RulesOut m a r p → RulesOut m (record { book = a.book; ranks = a.ranks; trail = a.trail; exclusions = a.exclusions; best = Some best; state = a.state }) r p
           still false p h = h
-          still true p h = (best, refl, c.no-worse p (rw h.1 h.2))
+          still true p h = (best, refl, c.no_worse p (rw h.1 h.2))
 
     pub conclude_sound : Sound m (conclude m a)
     unfolding conclude

@@ -9,7 +9,7 @@ pub use state::State;
 
 /// The planning law holds for every measure that keeps the laws.
 pub fn planning_law<M: Measure>() -> bool
-    ensures { Planning meaning }
+    ensures { Planning M.meaning }
 {
     true
 }

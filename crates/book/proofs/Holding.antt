@@ -162,10 +162,10 @@ module _ {C : Type 0} (m : Meaning C) where
     pub book_is : (history m a (map add rs)).book ≡ b
 
   adds_append : (a : Account C) (rs ss : List Rule) (b c : Book) → Adds a rs b → ((x : Account C) → x.book ≡ b → Adds x ss c) → Adds a (rs ++ ss) c
-  adds_append a [] ss b c first more = more a first.book-is
+  adds_append a [] ss b c first more = more a first.book_is
   adds_append a (r ∷ rs) ss b c first more =
-      let rest = adds_append (after m a (add r)) rs ss b c (record { accepted = first.accepted.1; book_is = first.book-is }) more in
-      record { accepted = (first.accepted.0, rest.accepted); book_is = rest.book-is }
+      let rest = adds_append (after m a (add r)) rs ss b c (record { accepted = first.accepted.1; book_is = first.book_is }) more in
+      record { accepted = (first.accepted.0, rest.accepted); book_is = rest.book_is }
 
   -- an allowed rule is added where there is room
   add_one_more : (ds : List Decision) (k : Kind) (a : Account C) (r : Rule) → a.book.decisions ≡ ds → Allowed ds k r → length (held a.book k) < 256
@@ -185,7 +185,7 @@ module _ {C : Type 0} (m : Meaning C) where
       let (none, next) = add_one_more ds k a r (ap (λ (c : Book). c.decisions) is ∙ with_decisions_lem b k old ∙ over) all.0 places in
       let now-is : (after m a (add r)).book ≡ with_rules b k (old ++ r.row ∷ []) = next ∙ ap (λ (c : Book). with_rules c k (held c k ++ r.row ∷ [])) is ∙ with_again b k old (r.row ∷ []) in
       let rest = adds_kind ds k b over (old ++ r.row ∷ []) rs (after m a (add r)) now-is all.1 (omega (arith, length-append old (r.row ∷ []))) in
-      record { accepted = (none, rest.accepted); book_is = rest.book-is ∙ ap (λ (rows : List Row). with_rules b k rows) (append_assoc old (r.row ∷ []) (map row_of rs)) }
+      record { accepted = (none, rest.accepted); book_is = rest.book_is ∙ ap (λ (rows : List Row). with_rules b k rows) (append_assoc old (r.row ∷ []) (map row_of rs)) }
 
 -- the rules that a book holds, as they are written
 abbrev pub rules_of : (ds : List Decision) (b : Book) → Holds ds b → List Rule
@@ -237,4 +237,4 @@ adds_again {C} m ds b h =
     let made : Adds m (fresh ds) (rules_of ds b h) three = adds_append m (fresh ds) fs.rules (gs.rules ++ ps.rules) one three (adds_kind m ds Forbid none refl [] fs.rules (fresh ds) refl fs.allowed (omega (arith, fs.few)))
     (λ x e. adds_append m x gs.rules ps.rules two three (adds_kind m ds Activate one refl [] gs.rules x e gs.allowed (omega (arith, gs.few)))
     (λ y f. adds_kind m ds Price two refl [] ps.rules y f ps.allowed (omega (arith, ps.few)))) in
-    record { accepted = made.accepted; book_is = made.book-is ∙ same_books _ _ _ _ _ _ _ _ (sym h.decisions_are) fs.rows_are gs.rows_are ps.rows_are }
+    record { accepted = made.accepted; book_is = made.book_is ∙ same_books _ _ _ _ _ _ _ _ (sym h.decisions_are) fs.rows_are gs.rows_are ps.rows_are }

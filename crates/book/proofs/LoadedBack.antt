@@ -61,7 +61,7 @@ module _ {C : Type 0} (m : Meaning C) where
       let loads : loaded m (stated_by ds rs) ≡ Ok (history m (fresh ds) (map add rs)) = agrees (stated_by ds rs) ds rs refl (held_short ds b opens h) (sizes_fit ds opens) (held_fits ds b opens h)
       ∙ ap (λ (o : Option Fault). unless o (added_from m (length ds + 1) (fresh ds) rs)) (opened_none 1 [] ds opens)
       ∙ added_ok (length ds + 1) (fresh ds) rs adds.accepted in
-      (history m (fresh ds) (map add rs), ap (loaded m) same ∙ loads, adds.book-is)
+      (history m (fresh ds) (map add rs), ap (loaded m) same ∙ loads, adds.book_is)
 
   -- so is what is written of a planner, whatever was called on it
   pub loads_back : ((text : List ℕ) → AgreesWithCalls m text) → LoadsBack m

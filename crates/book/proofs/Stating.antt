@@ -74,10 +74,10 @@ module _ {C : Type 0} (m : Meaning C) where
         ap (λ (w : Row). added m a w.kind w) (sym is) ∙ ap (after_if m a (add r)) (sym accepted) in
         record {
           stated = r ∷ rest.stated;
-          lines_are = joined _ _ _ _ (o.bytes-are ∙ composed_line k ps t price ∙ ap rule_line (sym is)) rest.lines_are;
-          all_ended_lem = and_from l.ended (all_ended ls) o.is-ended rest.all-ended;
+          lines_are = joined _ _ _ _ (o.bytes_are ∙ composed_line k ps t price ∙ ap rule_line (sym is)) rest.lines_are;
+          all_ended_lem = and_from l.ended (all_ended ls) o.is_ended rest.all_ended_lem;
           adds = (accepted, subst (λ (c : Account C). Accepted m c (map add rest.stated)) left rest.adds);
-          account_is = rest.account-is ∙ ap (λ (c : Account C). history m c (map add rest.stated)) left;
+          account_is = rest.account_is ∙ ap (λ (c : Account C). history m c (map add rest.stated)) left;
         }
 
   adding_next : (l : TextLine) (ls : List TextLine) (a b : Account C) → ((c : Account C) → load_lines m true c ls ≡ Ok b → Adding ls c b) → (s : Stated) → Obeyed m true a l ls b s → Adding (l ∷ ls) a b
@@ -101,10 +101,10 @@ module _ {C : Type 0} (m : Meaning C) where
         decided = [];
         stated = rest.stated;
         lines_are = rest.lines_are;
-        all_ended_lem = rest.all-ended;
+        all_ended_lem = rest.all_ended_lem;
         opens = ap open_refusal (append-nil before) ∙ started;
         adds = subst (λ (ds : List Decision). Accepted m (fresh ds) (map add rest.stated)) same rest.adds;
-        account_is = rest.account-is ∙ ap (λ (ds : List Decision). history m (fresh ds) (map add rest.stated)) same;
+        account_is = rest.account_is ∙ ap (λ (ds : List Decision). history m (fresh ds) (map add rest.stated)) same;
       }
 
   decision_first : (l : TextLine) (ls : List TextLine) (before : List Decision) (b : Account C) (d : Decision) → l.bytes ≡ decision_line d → l.ended ≡ true → Opening ls (before ++ d ∷ []) b → Opening (l ∷ ls) before b
@@ -114,14 +114,14 @@ module _ {C : Type 0} (m : Meaning C) where
         decided = d ∷ rest.decided;
         stated = rest.stated;
         lines_are = joined _ _ _ _ bytes rest.lines_are;
-        all_ended_lem = and_from l.ended (all_ended ls) end rest.all-ended;
+        all_ended_lem = and_from l.ended (all_ended ls) end rest.all_ended_lem;
         opens = ap open_refusal (sym same) ∙ rest.opens;
         adds = subst (λ (ds : List Decision). Accepted m (fresh ds) (map add rest.stated)) same rest.adds;
-        account_is = rest.account-is ∙ ap (λ (ds : List Decision). history m (fresh ds) (map add rest.stated)) same;
+        account_is = rest.account_is ∙ ap (λ (ds : List Decision). history m (fresh ds) (map add rest.stated)) same;
       }
 
   opening_next : (l : TextLine) (ls : List TextLine) (before : List Decision) (b : Account C) → open_refusal before ≡ None → ((es : List Decision) → open_refusal es ≡ None → load_lines m false (fresh es) ls ≡ Ok b → Opening ls es b) → (s : Stated) → Obeyed m false (fresh before) l ls b s → Opening (l ∷ ls) before b
-  opening_next l ls before b started later (decides d) o = decision_first l ls before b d o.bytes-are o.is-ended (later (before ++ d ∷ []) o.accepted o.rest)
+  opening_next l ls before b started later (decides d) o = decision_first l ls before b d o.bytes_are o.is_ended (later (before ++ d ∷ []) o.accepted o.rest)
   opening_next l ls before b started later (rules k ps t price) o =
       no_decision (l ∷ ls) before b started
       (rule_first false (fresh before) l ls b k ps t price o (adding ls (added m (fresh before) k (composed k ps t price)) b o.rest))
@@ -141,8 +141,8 @@ module _ {C : Type 0} (m : Meaning C) where
       record {
         decisions = o.decided;
         rules = o.stated;
-        text_is = text_of_lines text o.all-ended ∙ ap ended o.lines_are;
+        text_is = text_of_lines text o.all_ended_lem ∙ ap ended o.lines_are;
         opens = o.opens;
         adds = o.adds;
-        account_is = o.account-is;
+        account_is = o.account_is;
       }

@@ -54,7 +54,7 @@ fn open_with<M: Measure>(planner: &mut Planner<M>, decision: Decision) -> Result
 /// Composes a rule of its parts, and adds it to a planner.
 fn add_rule<M: Measure>(planner: &mut Planner<M>, parts: &Parts) -> Result<(), Refusal>
     ensures value { result ≡ as_result (or_else (compose_refusal parts.now.kind (pairs_of parts.now.pairs) parts.now.price) (add_refusal (account_of planner.old) (composed parts.now.kind (pairs_of parts.now.pairs) parts.now.target parts.now.price))) }
-    ensures after { account_of planner.new ≡ unless_refused (or_else (compose_refusal parts.now.kind (pairs_of parts.now.pairs) parts.now.price) (add_refusal (account_of planner.old) (composed parts.now.kind (pairs_of parts.now.pairs) parts.now.target parts.now.price))) (account_of planner.old) (added meaning (account_of planner.old) parts.now.kind (composed parts.now.kind (pairs_of parts.now.pairs) parts.now.target parts.now.price)) }
+    ensures after { account_of planner.new ≡ unless_refused (or_else (compose_refusal parts.now.kind (pairs_of parts.now.pairs) parts.now.price) (add_refusal (account_of planner.old) (composed parts.now.kind (pairs_of parts.now.pairs) parts.now.target parts.now.price))) (account_of planner.old) (added M.meaning (account_of planner.old) parts.now.kind (composed parts.now.kind (pairs_of parts.now.pairs) parts.now.target parts.now.price)) }
 {
     let mut rule = Rule::new();
     rule.compose(
@@ -76,7 +76,7 @@ pub fn has_begun(began: bool, statement: &Statement) -> bool
 /// Carries out what a line states: opens the planner over one decision more, or adds a rule.
 pub fn carry_out<M: Measure>(planner: &mut Planner<M>, statement: &Statement) -> Result<(), Refusal>
     ensures value { result ≡ as_result (statement_refusal (account_of planner.old) (stated_of statement.now)) }
-    ensures after { account_of planner.new ≡ unless_refused (statement_refusal (account_of planner.old) (stated_of statement.now)) (account_of planner.old) (carried meaning (account_of planner.old) (stated_of statement.now)) }
+    ensures after { account_of planner.new ≡ unless_refused (statement_refusal (account_of planner.old) (stated_of statement.now)) (account_of planner.old) (carried M.meaning (account_of planner.old) (stated_of statement.now)) }
 {
     match statement {
         Statement::Decision(decision) => open_with(planner, *decision),

@@ -20,7 +20,7 @@ const MOST_BYTES: usize = 65_536;
 /// Reads a line and carries out what it states. `began` is whether a rule line came before; the answer, whether one has
 /// come by now.
 fn load_line<M: Measure>(planner: &mut Planner<M>, line: &Line, began: bool) -> Result<bool, Fault>
-    ensures { on_ok (λ t. (t, account_of planner.new)) result ≡ line_step meaning began (account_of planner.old) (line_of line.now) }
+    ensures { on_ok (λ t. (t, account_of planner.new)) result ≡ line_step M.meaning began (account_of planner.old) (line_of line.now) }
 {
     let statement = read_line(line, began)?;
     match carry_out(planner, &statement) {
@@ -35,7 +35,7 @@ fn load_line<M: Measure>(planner: &mut Planner<M>, line: &Line, began: bool) -> 
 
 /// Reads the lines of a text and carries them out, up to the first fault.
 fn load_lines<M: Measure>(planner: &mut Planner<M>, text: &[u8]) -> Result<(), Fault>
-    ensures { on_ok (λ u. account_of planner.new) result ≡ load_lines meaning false (account_of planner.old) (lines_of text.now) }
+    ensures { on_ok (λ u. account_of planner.new) result ≡ load_lines M.meaning false (account_of planner.old) (lines_of text.now) }
 {
     let mut lines = Lines::of(text);
     let mut began = false;
@@ -57,10 +57,10 @@ fn clear<M: Measure>(planner: &mut Planner<M>)
 /// decisions. A text that is accepted is the text of its decisions and rules and of nothing else, and every text of
 /// decisions and rules is loaded as open and the adds would have it, their refusals too.
 pub fn load<M: Measure>(planner: &mut Planner<M>, text: &[u8]) -> Result<(), Fault>
-    ensures value { result ≡ verdict (loaded meaning text.now) }
-    ensures after { account_of planner.new ≡ left_by (loaded meaning text.now) }
-    ensures stated { ReadAsStated meaning text.now }
-    ensures agrees { AgreesWithCalls meaning text.now }
+    ensures value { result ≡ verdict (loaded M.meaning text.now) }
+    ensures after { account_of planner.new ≡ left_by (loaded M.meaning text.now) }
+    ensures stated { ReadAsStated M.meaning text.now }
+    ensures agrees { AgreesWithCalls M.meaning text.now }
 {
     clear(planner);
     if text.len() > MOST_BYTES {

@@ -39,7 +39,7 @@ impl Text for Fault {
 pub fn write<M: Measure>(planner: &Planner<M>, buffer: &mut [u8]) -> Result<usize, Refusal>
     ensures value { result ≡ counted (book_text (account_of planner.now).book.decisions (rows_of (account_of planner.now).book)) buffer.old }
     ensures after { buffer.new ≡ filled (book_text (account_of planner.now).book.decisions (rows_of (account_of planner.now).book)) buffer.old }
-    ensures law { LoadsBack meaning }
+    ensures law { LoadsBack M.meaning }
 {
     fill(planner, buffer)
 }

@@ -24,7 +24,7 @@ pub enum Fault {
 
 /// A plan's cost under one measure.
 fn cost<M: Measure>(book: &Book, plan: &[u8]) -> Result<M, Fault>
-    ensures { Costed meaning book.now.decisions book.now.rows plan.now result }
+    ensures { Costed M.meaning book.now.decisions book.now.rows plan.now result }
 {
     match rules::judge(&book.decisions, &book.rows, plan) {
         Ok(Verdict::Lawful(cost)) => Ok(cost),

@@ -6,7 +6,7 @@ use measure::Measure;
 
 /// Whether a cost reaches the best's, which is to be at least that.
 pub fn reaches<M: Measure>(best: M, cost: M) -> bool
-    ensures { result ≡ reaches meaning best cost }
+    ensures { result ≡ reaches M.meaning best cost }
 {
     best.at_most(cost)
 }

@@ -24,7 +24,7 @@ fn try_cost<M: Measure>(
 ) -> Option<(DecisionSet, bool)>
     requires long { length costs.old ≡ 257 }
     ensures long { length costs.new ≡ 257 }
-    ensures value { as_exclusion result ≡ by_cost meaning (book_of book.now) decision (from_bytes plan.now) (Some best) }
+    ensures value { as_exclusion result ≡ by_cost M.meaning (book_of book.now) decision (from_bytes plan.now) (Some best) }
 {
     let rows = book.rows(Kind::Price);
     price_suffixes(rows, plan, costs);
@@ -45,7 +45,7 @@ fn try_plan<M: Measure>(
 ) -> Option<(DecisionSet, bool)>
     requires long { length costs.old ≡ 257 }
     ensures long { length costs.new ≡ 257 }
-    ensures value { as_exclusion result ≡ try_plan meaning (book_of book.now) best decision (from_bytes plan.now) }
+    ensures value { as_exclusion result ≡ try_plan M.meaning (book_of book.now) best decision (from_bytes plan.now) }
 {
     if let Some(row) = first_met(book.rows(Kind::Forbid), plan) {
         return Some((named(row).without(decision), false));
@@ -71,7 +71,7 @@ fn try_value<M: Measure>(
     requires low { 1 ≤ value }
     requires high { value ≤ 16 }
     ensures long { length costs.new ≡ 257 }
-    ensures after { exclusions_of exclusions.new ≡ (λ x w. or_tried (exclusions_of exclusions.old x w) (x == decision && w == value) (try_plan meaning (book_of book.now) best decision (from_bytes plan.now))) }
+    ensures after { exclusions_of exclusions.new ≡ (λ x w. or_tried (exclusions_of exclusions.old x w) (x == decision && w == value) (try_plan M.meaning (book_of book.now) best decision (from_bytes plan.now))) }
 {
     if exclusions.get(decision, value).is_some() {
         return;
@@ -96,7 +96,7 @@ pub fn try_values<M: Measure>(
     requires known { decision < 64 }
     requires few { size ≤ 16 }
     ensures long { length costs.new ≡ 257 }
-    ensures after { exclusions_of exclusions.new ≡ tried_to meaning (book_of book.now) best (from_bytes plan.now) (exclusions_of exclusions.old) decision size }
+    ensures after { exclusions_of exclusions.new ≡ tried_to M.meaning (book_of book.now) best (from_bytes plan.now) (exclusions_of exclusions.old) decision size }
 {
     let mut trial = *plan;
     for v in 1..size + 1 {

@@ -19,7 +19,7 @@ use sets::DecisionSet;
 
 /// The best beside a complete trail's plan: the plan if none is held or it costs less.
 fn better<M: Measure>(held: Option<Best<M>>, plan: Best<M>) -> Best<M>
-    ensures { best_of result ≡ champion meaning (option_map best_of held) (best_of plan) }
+    ensures { best_of result ≡ champion M.meaning (option_map best_of held) (best_of plan) }
 {
     match held {
         Some(best) => {
@@ -43,8 +43,8 @@ pub fn weigh<M: Measure>(
     requires long { length costs.old ≡ 257 }
     requires wide { length plan ≡ 64 }
     ensures long { length costs.new ≡ 257 }
-    ensures best { best_of result.0 ≡ champion meaning (option_map best_of held) (record { plan = from_bytes plan; cost = cost meaning (book_of book.now).prices (from_bytes plan) }) }
-    ensures blame { members result.1 ≡ price_reason meaning (book_of book.now) result.0.cost (from_bytes plan) }
+    ensures best { best_of result.0 ≡ champion M.meaning (option_map best_of held) (record { plan = from_bytes plan; cost = cost M.meaning (book_of book.now).prices (from_bytes plan) }) }
+    ensures blame { members result.1 ≡ price_reason M.meaning (book_of book.now) result.0.cost (from_bytes plan) }
 {
     let rows = book.rows(Kind::Price);
     price_suffixes(rows, &plan, costs);
@@ -59,7 +59,7 @@ fn price_of<M: Measure>(book: &Book, costs: &mut [M; 257], plan: &[u8; 64]) -> M
     requires long { length costs.old ≡ 257 }
     requires wide { length plan.now ≡ 64 }
     ensures long { length costs.new ≡ 257 }
-    ensures value { result ≡ cost meaning (book_of book.now).prices (from_bytes plan.now) }
+    ensures value { result ≡ cost M.meaning (book_of book.now).prices (from_bytes plan.now) }
 {
     price_suffixes(book.rows(Kind::Price), plan, costs);
     costs[0]
@@ -73,7 +73,7 @@ pub fn repriced_best<M: Measure>(
 ) -> Option<Best<M>>
     requires long { length costs.old ≡ 257 }
     ensures long { length costs.new ≡ 257 }
-    ensures value { option_map best_of result ≡ repriced meaning (book_of book.now).prices (option_map best_of held) }
+    ensures value { option_map best_of result ≡ repriced M.meaning (book_of book.now).prices (option_map best_of held) }
 {
     match held {
         Some(best) => {

@@ -31,10 +31,10 @@ composed_full k ps t price h = length-append ps (replicate (4 - length ps) blank
 
 -- a row made of accepted parts has the shape of a rule
 pub accepted_shape : (r : Row) (k : Kind) (ps : List Literal) (t : ℕ) (price : Price) → r ≡ composed k ps t price → compose_refusal k ps price ≡ None
-    → (1 ≤ r.count) × ((r.count ≤ 4) × ((length r.pairs ≡ 4) × ((ascends (condition r) ≡ true) × Unit {0})))
+    → (1 ≤ r.count) × (r.count ≤ 4) × (length r.pairs ≡ 4) × (ascends (condition r) ≡ true)
 accepted_shape r k ps t price e h =
     let (low, high, order) = accepted_pairs k ps price h in
     let many = ap (λ (x : Row). x.count) e in
     let pairs = ap (λ (x : Row). length x.pairs) e in
     let cond = ap condition e in
-    (omega arith, (omega arith, (pairs ∙ composed_full k ps t price high, (ap ascends (cond ∙ composed_condition k ps t price) ∙ order, tt))))
+    (omega arith, omega arith, pairs ∙ composed_full k ps t price high, ap ascends (cond ∙ composed_condition k ps t price) ∙ order)

@@ -70,7 +70,7 @@ fn pays(row: &Row, plan: &[u8]) -> bool
 
 /// The cost of a plan: the joined costs of the price rules that it meets.
 fn cost_of<M: Measure>(rows: &[Row], plan: &[u8]) -> M
-    ensures { result ≡ cost meaning (filter (λ x. is_price x.kind) rows.now) (from_bytes plan.now) }
+    ensures { result ≡ cost M.meaning (filter (λ x. is_price x.kind) rows.now) (from_bytes plan.now) }
 {
     let mut sum = M::neutral();
     for row in rows {
@@ -106,7 +106,7 @@ pub fn judge<M: Measure>(
     rows: &[Row],
     plan: &[u8],
 ) -> Result<Verdict<M>, Refusal>
-    ensures { Answered meaning decisions.now rows.now plan.now result }
+    ensures { Answered M.meaning decisions.now rows.now plan.now result }
 {
     check_decisions(decisions)?;
     check_rows(decisions, rows)?;

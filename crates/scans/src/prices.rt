@@ -16,7 +16,7 @@ pub fn price_suffixes<M: Measure>(rows: &[Row], plan: &[u8], after: &mut [M; 257
     requires few { length rows.now ≤ 256 }
     requires long { length after.old ≡ 257 }
     ensures long { length after.new ≡ 257 }
-    ensures value { Suffixes meaning rows.now (from_bytes plan.now) after.new 0 }
+    ensures value { Suffixes M.meaning rows.now (from_bytes plan.now) after.new 0 }
 {
     let mut cost = M::neutral();
     after[rows.len()] = cost;
@@ -28,7 +28,7 @@ pub fn price_suffixes<M: Measure>(rows: &[Row], plan: &[u8], after: &mut [M; 257
 
 /// What a row and what comes after it cost a plan.
 fn price_before<M: Measure>(row: &Row, plan: &[u8], later: M) -> M
-    ensures { result ≡ priced meaning (from_bytes plan.now) row.now later }
+    ensures { result ≡ priced M.meaning (from_bytes plan.now) row.now later }
 {
     if row.met(plan) {
         M::read(row.price).join(later)
@@ -39,7 +39,7 @@ fn price_before<M: Measure>(row: &Row, plan: &[u8], later: M) -> M
 
 /// Whether a row is met, and what is kept before it and met after it does not reach the best's cost.
 fn is_kept<M: Measure>(row: &Row, plan: &[u8], best: M, before: M, later: M) -> bool
-    ensures { result ≡ (met (from_bytes plan.now) row.now && not (meaning.at_most best (meaning.joins before later))) }
+    ensures { result ≡ (met (from_bytes plan.now) row.now && not (M.meaning.at_most best (M.meaning.joins before later))) }
 {
     row.met(plan) && !best.at_most(before.join(later))
 }
@@ -50,8 +50,8 @@ pub fn kept_named<M: Measure>(rows: &[Row], plan: &[u8], best: M, after: &[M; 25
     requires few { length rows.now ≤ 256 }
     requires known { Known rows.now }
     requires long { length after.now ≡ 257 }
-    requires costs { Suffixes meaning rows.now (from_bytes plan.now) after.now 0 }
-    ensures { members result ≡ named_in (kept meaning best meaning.neutral rows.now (from_bytes plan.now)) }
+    requires costs { Suffixes M.meaning rows.now (from_bytes plan.now) after.now 0 }
+    ensures { members result ≡ named_in (kept M.meaning best M.meaning.neutral rows.now (from_bytes plan.now)) }
 {
     let mut before = M::neutral();
     let mut set = DecisionSet::empty();

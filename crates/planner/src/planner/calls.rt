@@ -42,7 +42,7 @@ impl<M: Measure> Planner<M> {
     pub fn open(&mut self, decisions: &[Decision]) -> Result<(), Refusal>
         ensures value { result ≡ as_result (open_refusal decisions.now) }
         ensures after { account_of self.new ≡ unless_refused (open_refusal decisions.now) (account_of self.old) (fresh decisions.now) }
-        ensures law { open_refusal decisions.now ≡ None → (calls others : List Call) → PlanningLaw meaning decisions.now calls others }
+        ensures law { open_refusal decisions.now ≡ None → (calls others : List Call) → PlanningLaw M.meaning decisions.now calls others }
     {
         check_decisions(decisions)?;
         self.reset(decisions);
@@ -82,8 +82,8 @@ impl<M: Measure> Planner<M> {
 
     /// Sets the rank of a decision. Refuses an unknown decision.
     pub fn rank(&mut self, decision: u8, rank: u8) -> Result<(), Refusal>
-        ensures value { says_done result ≡ answer meaning (account_of self.old) (rank_call decision rank) }
-        ensures after { account_of self.new ≡ after meaning (account_of self.old) (rank_call decision rank) }
+        ensures value { says_done result ≡ answer M.meaning (account_of self.old) (rank_call decision rank) }
+        ensures after { account_of self.new ≡ after M.meaning (account_of self.old) (rank_call decision rank) }
     {
         if decision as usize >= self.decisions().len() {
             return Err(Refusal::UnknownDecision);
@@ -95,8 +95,8 @@ impl<M: Measure> Planner<M> {
     /// Makes as many steps as the budget, fewer only if then settled, and answers their number and the state. Refuses
     /// a budget over 1,000,000.
     pub fn run(&mut self, budget: u32) -> Result<(u32, State), Refusal>
-        ensures value { says_ran result ≡ answer meaning (account_of self.old) (run budget) }
-        ensures after { account_of self.new ≡ after meaning (account_of self.old) (run budget) }
+        ensures value { says_ran result ≡ answer M.meaning (account_of self.old) (run budget) }
+        ensures after { account_of self.new ≡ after M.meaning (account_of self.old) (run budget) }
     {
         if budget > MOST_STEPS {
             return Err(Refusal::BudgetTooLarge);
@@ -119,7 +119,7 @@ impl<M: Measure> Planner<M> {
     /// The state, and if a best is held its cost; the best's plan is then written, a byte for each decision: its
     /// value, or 0 if it is idle. Refuses a buffer shorter than the decisions, which then stays as it was.
     pub fn best(&self, buffer: &mut [u8]) -> Result<(State, Option<M>), Refusal>
-        ensures value { says_best result buffer.new ≡ answer meaning (account_of self.now) (best buffer.old) }
+        ensures value { says_best result buffer.new ≡ answer M.meaning (account_of self.now) (best buffer.old) }
         ensures kept { is_ok result ≡ false → buffer.new ≡ buffer.old }
     {
         let count = self.decisions().len();
@@ -139,7 +139,7 @@ impl<M: Measure> Planner<M> {
     /// Why a value of a decision is excluded, and whether that rests on the best; none if it is not. Refuses an unknown
     /// decision, then an unknown value.
     pub fn exclusion(&self, decision: u8, value: u8) -> Result<Option<(DecisionSet, bool)>, Refusal>
-        ensures { says_excluded result ≡ answer meaning (account_of self.now) (exclusion decision value) }
+        ensures { says_excluded result ≡ answer M.meaning (account_of self.now) (exclusion decision value) }
     {
         if decision as usize >= self.decisions().len() {
             return Err(Refusal::UnknownDecision);
@@ -152,7 +152,7 @@ impl<M: Measure> Planner<M> {
 
     /// How many values of a decision are not excluded. Refuses an unknown decision.
     pub fn unexcluded(&self, decision: u8) -> Result<u8, Refusal>
-        ensures { says_counted result ≡ answer meaning (account_of self.now) (unexcluded decision) }
+        ensures { says_counted result ≡ answer M.meaning (account_of self.now) (unexcluded decision) }
     {
         if decision as usize >= self.decisions().len() {
             return Err(Refusal::UnknownDecision);

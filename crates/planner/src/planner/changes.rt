@@ -20,8 +20,8 @@ impl<M: Measure> Planner<M> {
     /// Puts a rule last of its kind. Refuses an unknown decision in its pairs or target, then an unknown value, then
     /// when 256 of the kind are held.
     pub fn add(&mut self, rule: &Rule) -> Result<(), Refusal>
-        ensures value { says_done result ≡ answer meaning (account_of self.old) (add rule.now) }
-        ensures after { account_of self.new ≡ after meaning (account_of self.old) (add rule.now) }
+        ensures value { says_done result ≡ answer M.meaning (account_of self.old) (add rule.now) }
+        ensures after { account_of self.new ≡ after M.meaning (account_of self.old) (add rule.now) }
     {
         let row = rule.row();
         check_row(self.book.decisions(), &row)?;
@@ -34,8 +34,8 @@ impl<M: Measure> Planner<M> {
 
     /// Takes out the rule of a kind at a place. Refuses when no rule is there.
     pub fn withdraw(&mut self, kind: Kind, place: usize) -> Result<(), Refusal>
-        ensures value { says_done result ≡ answer meaning (account_of self.old) (withdraw_call kind place) }
-        ensures after { account_of self.new ≡ after meaning (account_of self.old) (withdraw_call kind place) }
+        ensures value { says_done result ≡ answer M.meaning (account_of self.old) (withdraw_call kind place) }
+        ensures after { account_of self.new ≡ after M.meaning (account_of self.old) (withdraw_call kind place) }
     {
         if place >= self.book.rows(kind).len() {
             return Err(Refusal::NoSuchRule);
@@ -48,7 +48,7 @@ impl<M: Measure> Planner<M> {
     fn put_in(&mut self, row: Row)
         requires shape { shaped row ≡ true }
         requires room { length (held (account_of self.old).book row.kind) < 256 }
-        ensures { account_of self.new ≡ added meaning (account_of self.old) row.kind row }
+        ensures { account_of self.new ≡ added M.meaning (account_of self.old) row.kind row }
     {
         let met = self.best_meets(&row);
         self.book.add(row);
@@ -62,7 +62,7 @@ impl<M: Measure> Planner<M> {
     /// Takes a rule that is there out, and keeps what still holds.
     fn take_out(&mut self, kind: Kind, place: usize)
         requires { place < length (held (account_of self.old).book kind) }
-        ensures { account_of self.new ≡ withdrawn meaning (account_of self.old) kind place }
+        ensures { account_of self.new ≡ withdrawn M.meaning (account_of self.old) kind place }
     {
         self.book.remove(kind, place);
         match kind {
@@ -121,7 +121,7 @@ impl<M: Measure> Planner<M> {
 
     /// Reopens with the best's cost worked out again.
     fn reopen_repriced(&mut self, resting: bool)
-        ensures { account_of self.new ≡ reopened (account_of self.old) (account_of self.old).book (repriced meaning (account_of self.old).book.prices (account_of self.old).best) (λ e. resting || not e.rests) }
+        ensures { account_of self.new ≡ reopened (account_of self.old) (account_of self.old).book (repriced M.meaning (account_of self.old).book.prices (account_of self.old).best) (λ e. resting || not e.rests) }
     {
         let held = self.best;
         self.best = repriced_best(&self.book, &mut self.costs, held);

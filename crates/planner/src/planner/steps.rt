@@ -50,7 +50,7 @@ impl<M: Measure> Planner<M> {
     fn extend(&mut self, decision: u8)
         requires known { decision < length (account_of self.old).book.decisions }
         requires idle { chosen (account_of self.old).trail decision ≡ 0 }
-        ensures { account_of self.new ≡ extend meaning (account_of self.old) decision }
+        ensures { account_of self.new ≡ extend M.meaning (account_of self.old) decision }
     {
         let size = self.book.size_of(decision);
         let plan = *self.trail.plan();
@@ -77,7 +77,7 @@ impl<M: Measure> Planner<M> {
 
     /// A step on a complete trail: it becomes the best if none is held or it costs less, and is retreated from.
     fn conclude(&mut self)
-        ensures { account_of self.new ≡ conclude meaning (account_of self.old) }
+        ensures { account_of self.new ≡ conclude M.meaning (account_of self.old) }
     {
         let plan = *self.trail.plan();
         let held = self.best;
@@ -88,7 +88,7 @@ impl<M: Measure> Planner<M> {
 
     /// One step of the search.
     pub(crate) fn step(&mut self)
-        ensures { account_of self.new ≡ step meaning (account_of self.old) }
+        ensures { account_of self.new ≡ step M.meaning (account_of self.old) }
     {
         match pick_decision(&self.book, &self.ranks, self.trail.plan()) {
             Some(decision) => self.extend(decision),

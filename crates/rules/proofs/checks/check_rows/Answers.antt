@@ -19,16 +19,16 @@ module _ (ds : List Decision) (rs : List Row) (i : ℕ) (d : Row) (l : i < lengt
   accepted-here : (u : Unit {0}) → as_result (row_refusal ds (get_or rs i d)) ≡ Ok u → rows_refusal ds (drop i rs) ≡ rows_refusal ds (drop (i + 1) rs)
   accepted-here u h = next ∙ ap (λ (o : Option Refusal). or_else o (rows_refusal ds (drop (i + 1) rs))) (accepted_none (row_refusal ds (get_or rs i d)) u h)
 
-pub returns-in-err-check-row : goal.returns-in-err-check-row
-returns-in-err-check-row c =
-    let p = err_from_is_err_and c.from-residual.result c.from-residual.ensures.1 in
-    let h = refused-here c.args.decisions.now c.args.rows.now c.loop-row.row-index _ c.loop-row-test.true _ (sym c.in-err-check-row.ensures) in
+pub returns-in_err-check_row : goal.returns-in_err-check_row
+returns-in_err-check_row c =
+    let p = err_from_is_err_and c.from_residual.result c.from_residual.ensures.1 in
+    let h = refused-here c.args.decisions.now c.args.rows.now c.loop-row.row-index _ c.loop-row-test.true _ (sym c.in_err-check_row.ensures) in
     rw (p.1, p.2) (sym (ap as_result (c.loop-row.invariant ∙ h)))
 
 pub loop-row-preserved : goal.loop-row-preserved
 loop-row-preserved c =
     c.loop-row.invariant
-    ∙ accepted-here c.args.decisions.now c.args.rows.now c.loop-row.row-index _ c.loop-row-test.true _ (sym c.in-ok-check-row.ensures)
+    ∙ accepted-here c.args.decisions.now c.args.rows.now c.loop-row.row-index _ c.loop-row-test.true _ (sym c.in_ok-check_row.ensures)
 
 pub returns : goal.returns
 returns c =

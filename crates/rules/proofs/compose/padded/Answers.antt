@@ -8,5 +8,5 @@ use Rattle.rules.proofs.compose.padded.Goals as goal
 pub returns : goal.returns
 returns c =
     let n = length c.args.pairs.now in
-    ap₂ (λ (xs ys : List Literal). xs ++ ys) c.copy-from-slice.ensures.after
+    ap₂ (λ (xs ys : List Literal). xs ++ ys) c.copy_from_slice.ensures.after
     (ap (λ (k : ℕ). drop k (replicate 4 blank)) (sub-zero n) ∙ drop-replicate n 4 blank)

@@ -11,7 +11,7 @@ returns-in-Some g c =
     let ds = c.args.decisions.now in
     let rs = c.args.rows.now in
     let bytes = c.args.plan.now in (
-      judge_accepts ds rs bytes (sym c.in-ok-check-decisions.ensures) (sym c.in-ok-check-rows.ensures) c.if-plan-decisions.false,
+      judge_accepts ds rs bytes (sym c.in_ok-check_decisions.ensures) (sym c.in_ok-check_rows.ensures) c.if-plan-decisions.false,
       subst (λ (p : Plan). Breaks (book_of ds rs) p c.in-Some.breach) (plan_part (length ds) bytes) c.in-Some.ensures,
     )
 
@@ -20,9 +20,9 @@ returns-in-None g c =
     let ds = c.args.decisions.now in
     let rs = c.args.rows.now in
     let bytes = c.args.plan.now in (
-      judge_accepts ds rs bytes (sym c.in-ok-check-decisions.ensures) (sym c.in-ok-check-rows.ensures) c.if-plan-decisions.false,
+      judge_accepts ds rs bytes (sym c.in_ok-check_decisions.ensures) (sym c.in_ok-check_rows.ensures) c.if-plan-decisions.false,
       (
         subst (λ (p : Plan). Lawful (book_of ds rs) p) (plan_part (length ds) bytes) c.in-None.ensures,
-        c.cost-of.ensures ∙ ap (cost g.M.Measure.meaning (prices rs)) (plan_part (length ds) bytes),
+        c.cost_of.ensures ∙ ap (cost g.M.Measure.meaning (prices rs)) (plan_part (length ds) bytes),
       ),
     )
