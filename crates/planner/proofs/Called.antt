@@ -79,14 +79,14 @@ module _ {C : Type 0} (m : Meaning C) (a : Account C) where
   -- an open planner makes one more
   pub open_more : (k : ℕ) (b : Account C) → b ≡ advance m k a → is_open b.state ≡ true → k ≡ made m k a → (step m b ≡ advance m (k + 1) a) × (k + 1 ≡ made m (k + 1) a)
   open_more k b e o count =
-      let now-open = ap (λ (x : Account C). x.state) (sym e) ∙ is_open b.state o in (
+      let now-open = ap (λ (x : Account C). x.state) (sym e) ∙ by_state b.state o in (
         ap (step m) e ∙ sym (ap (advance_in m (advance m k a)) now-open) ∙ ap (λ (n : ℕ). advance m n a) (sym (add-one k)),
         ap (λ (n : ℕ). n + 1) count ∙ sym (ap (λ (s : State). made m k a + one_if_open s) now-open) ∙ ap (λ (n : ℕ). made m n a) (sym (add-one k)),
       )
     where
-      is_open : (s : State) → is_open s ≡ true → s ≡ Open
-      is_open Open h = refl
-      is_open Settled h = cc
+      by_state : (s : State) → is_open s ≡ true → s ≡ Open
+      by_state Open h = refl
+      by_state Settled h = cc
 
   -- where it is not open, the budget does not matter
   pub not_open : (k n : ℕ) (b : Account C) → b ≡ advance m k a → is_open b.state ≡ false → k ≤ n → (b ≡ advance m n a) × (made m k a ≡ made m n a)

@@ -25,11 +25,11 @@ module _ (ds old new : List Decision) (e : new ≡ ds) where
       ∙ take-append-le (length ds) ds (drop (length ds - 0) old) (omega arith) ∙ take-length ds
 
   -- the book keeps its shape
-  pub copied_shape : open_refusal ds ≡ None → length old ≡ 64 → (length ds ≤ 64) × ((length (new ++ drop (length ds - 0) old) ≡ 64) × ((sized (take (length ds) (new ++ drop (length ds - 0) old)) ≡ true) × Unit {0}))
+  pub copied_shape : open_refusal ds ≡ None → length old ≡ 64 → (length ds ≤ 64) × (length (new ++ drop (length ds - 0) old) ≡ 64) × (sized (take (length ds) (new ++ drop (length ds - 0) old)) ≡ true)
   copied_shape h full =
       let few = accepted_few ds h in
       let same = ap length e in
-      (few, (length-append new (drop (length ds - 0) old) ∙ omega (arith, length-drop (length ds - 0) old), (ap sized front_copied ∙ accepted_sized ds h, tt)))
+      (few, length-append new (drop (length ds - 0) old) ∙ omega (arith, length-drop (length ds - 0) old), ap sized front_copied ∙ accepted_sized ds h)
 
 -- a decision of sized ones has at most 16 values
 pub sized_at : (ds : List Decision) (d : ℕ) → sized ds ≡ true → size_at ds d ≤ 16

@@ -18,10 +18,10 @@ loop-i-preserved c =
     let i = c.loop-i.i in
     let low : i < 64 = omega (arith, c.decisions-decisions.ensures.few) in
     let waits-here =
-    waiting_is b c.decisions-decisions.result.now c.rows.result.now p i c.is-waiting-waiting.result (members c.enabled-targets.result i)
-    c.decisions-decisions.ensures.value c.rows.ensures.value (c.enabled-targets.ensures i low) c.is-waiting-waiting.ensures in (
-      picked_more ranks (waits b p) i c.loop-i.picked c.preferred-picked.result c.is-waiting-waiting.result waits-here c.loop-i.invariant.0 c.preferred-picked.ensures,
-      picked_low ranks c.is-waiting-waiting.result i 64 c.loop-i.picked c.preferred-picked.result c.preferred-picked.ensures low c.loop-i.invariant.1,
+    waiting_is b c.decisions-decisions.result.now c.rows.result.now p i c.is_waiting-waiting.result (members c.enabled-targets.result i)
+    c.decisions-decisions.ensures.value c.rows.ensures.value (c.enabled-targets.ensures i low) c.is_waiting-waiting.ensures in (
+      picked_more ranks (waits b p) i c.loop-i.picked c.preferred-picked.result c.is_waiting-waiting.result waits-here c.loop-i.invariant.0 c.preferred-picked.ensures,
+      picked_low ranks c.is_waiting-waiting.result i 64 c.loop-i.picked c.preferred-picked.result c.preferred-picked.ensures low c.loop-i.invariant.1,
     )
 
 pub returns : goal.returns

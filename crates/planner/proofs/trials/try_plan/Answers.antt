@@ -24,10 +24,10 @@ returns-in-Some-best g c =
     let b = book_of c.args.book.now in
     let p = from_bytes c.args.plan.now in
     record {
-      long = c.try-cost.ensures.long;
+      long = c.try_cost.ensures.long;
       value =
-          c.try-cost.ensures.value ∙ ap (by_cost m b c.args.decision p) (sym c.in-Some-best.is)
-          ∙ forbid_miss m b c.args.decision p c.args.best c.rows.result.now c.rows.ensures.value c.in-default.ensures;
+          c.try_cost.ensures.value ∙ ap (by_cost m b c.args.decision p) (sym c.in-Some-best.is)
+          ∙ forbid_miss m b c.args.decision p c.args.best c.rows.result.now c.rows.ensures.value c.in_default.ensures;
     }
 
 pub returns-in-None : goal.returns-in-None
@@ -39,5 +39,5 @@ returns-in-None g c =
       long = c.requires.long;
       value =
           ap (by_cost m b c.args.decision p) (sym c.in-None.is)
-          ∙ forbid_miss m b c.args.decision p c.args.best c.rows.result.now c.rows.ensures.value c.in-default.ensures;
+          ∙ forbid_miss m b c.args.decision p c.args.best c.rows.result.now c.rows.ensures.value c.in_default.ensures;
     }

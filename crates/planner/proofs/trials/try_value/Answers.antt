@@ -6,9 +6,9 @@ use Rattle.planner.specs.Trials.{try_plan}
 use Rattle.planner.proofs.Trying.{tried_already, some_exclusion}
 use Rattle.planner.proofs.trials.try_value.Goals as goal
 
-pub returns-then-is-some : goal.returns-then-is-some
-returns-then-is-some g c =
+pub returns-then-is_some : goal.returns-then-is_some
+returns-then-is_some g c =
     let ex = exclusions_of c.args.exclusions.now in
     let t = try_plan g.M.Measure.meaning (book_of c.args.book.now) c.args.best c.args.decision (from_bytes c.args.plan.now) in
-    let held = some_exclusion c.get.result (ex c.args.decision c.args.value) (sym c.if-is-some.ensures) c.get.ensures in
+    let held = some_exclusion c.get.result (ex c.args.decision c.args.value) (sym c.if-is_some.ensures) c.get.ensures in
     record { long = c.requires.long; after = tried_already ex c.args.decision c.args.value t held.0 held.1 }

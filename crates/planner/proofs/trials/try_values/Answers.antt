@@ -14,19 +14,19 @@ loop-v-init g c = (
   tried_none g.M.Measure.meaning (book_of c.args.book.now) c.args.best (from_bytes c.args.plan.now) (exclusions_of c.args.exclusions.now) c.args.decision,
 )
 
-pub slice-bounds-try-value-end : goal.slice-bounds-try-value-end
-slice-bounds-try-value-end g c = sym (length-set c.loop-v.trial c.args.decision c.loop-v.v ∙ c.loop-v.invariant.1)
+pub slice_bounds-try_value-end : goal.slice_bounds-try_value-end
+slice_bounds-try_value-end g c = sym (length-set c.loop-v.trial c.args.decision c.loop-v.v ∙ c.loop-v.invariant.1)
 
 pub loop-v-preserved : goal.loop-v-preserved
 loop-v-preserved g c =
     let d = c.args.decision in
     let v = c.loop-v.v in
     let room : d < length c.loop-v.trial = omega (arith, c.loop-v.invariant.1) in (
-      c.try-value.ensures.long,
+      c.try_value.ensures.long,
       length-set c.loop-v.trial d v ∙ c.loop-v.invariant.1,
       but_set c.loop-v.trial c.args.plan.now d v c.loop-v.invariant.2,
       tried_at g.M.Measure.meaning (book_of c.args.book.now) c.args.best (from_bytes c.args.plan.now) (exclusions_of c.args.exclusions.now) d v (from_bytes (set c.loop-v.trial d v))
-          (exclusions_of c.loop-v.exclusions) (exclusions_of c.try-value.new.exclusions) c.loop-v.auto.v (but_choose c.loop-v.trial c.args.plan.now d v room c.loop-v.invariant.2) c.loop-v.invariant.3 c.try-value.ensures.after,
+          (exclusions_of c.loop-v.exclusions) (exclusions_of c.try_value.new.exclusions) c.loop-v.auto.v (but_choose c.loop-v.trial c.args.plan.now d v room c.loop-v.invariant.2) c.loop-v.invariant.3 c.try_value.ensures.after,
     )
 
 pub returns : goal.returns

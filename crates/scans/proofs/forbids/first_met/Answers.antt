@@ -15,14 +15,14 @@ rows-preserved c =
     c.rows.invariant
     ∙ first_later p c.args.rows.now c.rows.row-index _ c.rows-test.true
     (ap (meets p) (sym c.condition-pairs.ensures) ∙ c.pairs.invariant
-    ∙ each_fails (meets p) (meets p) (has p (get_or ls i blank)) ls i blank (λ ys. refl) c.pairs-test.true (sym c.if-not-held-by.ensures))
+    ∙ each_fails (meets p) (meets p) (has p (get_or ls i blank)) ls i blank (λ ys. refl) c.pairs-test.true (sym c.if-not-held_by.ensures))
 
 pub pairs-preserved : goal.pairs-preserved
 pairs-preserved c =
     let p = from_bytes c.args.plan.now in
     let ls = c.condition-pairs.result.now in
     let i = c.pairs.pair-index in
-    c.pairs.invariant ∙ each_more (meets p) (meets p) (has p (get_or ls i blank)) ls i blank (λ ys. refl) c.pairs-test.true (sym c.if-not-held-by.ensures)
+    c.pairs.invariant ∙ each_more (meets p) (meets p) (has p (get_or ls i blank)) ls i blank (λ ys. refl) c.pairs-test.true (sym c.if-not-held_by.ensures)
 
 pub returns-after-pairs : goal.returns-after-pairs
 returns-after-pairs c =

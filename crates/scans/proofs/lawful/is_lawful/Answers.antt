@@ -4,14 +4,14 @@ use Rattle.sets.specs.Members.{members}
 use Rattle.scans.proofs.Fits.{lawful_by}
 use Rattle.scans.proofs.lawful.is_lawful.Goals as goal
 
-pub returns-then-all-fit : goal.returns-then-all-fit
-returns-then-all-fit c prices =
-    c.meets-none.ensures
+pub returns-then-all_fit : goal.returns-then-all_fit
+returns-then-all_fit c prices =
+    c.meets_none.ensures
     ∙ lawful_by (record { decisions = c.args.decisions.now; forbids = c.args.forbids.now; activates = c.args.activates.now; prices = prices }) (from_bytes c.args.plan.now)
-    (members c.active-decisions-active.result) true (λ d l. c.active-decisions-active.ensures d (omega arith)) c.if-all-fit.ensures
+    (members c.active_decisions-active.result) true (λ d l. c.active_decisions-active.ensures d (omega arith)) c.if-all_fit.ensures
 
-pub returns-else-all-fit : goal.returns-else-all-fit
-returns-else-all-fit c prices =
-    c.if-all-fit.false
+pub returns-else-all_fit : goal.returns-else-all_fit
+returns-else-all_fit c prices =
+    c.if-all_fit.false
     ∙ lawful_by (record { decisions = c.args.decisions.now; forbids = c.args.forbids.now; activates = c.args.activates.now; prices = prices }) (from_bytes c.args.plan.now)
-    (members c.active-decisions-active.result) false (λ d l. c.active-decisions-active.ensures d (omega arith)) c.if-all-fit.ensures
+    (members c.active_decisions-active.result) false (λ d l. c.active_decisions-active.ensures d (omega arith)) c.if-all_fit.ensures

@@ -10,7 +10,7 @@ use Rattle.sets.specs.Members.{members}
 use Rattle.sets.specs.declared.decision_set.DecisionSet.{DecisionSet}
 use Rattle.scans.proofs.Gathered.{gather_kept, skip_spared}
 use Rattle.scans.proofs.prices.kept_named.Goals as goal
-use Rattle.scans.proofs.prices.kept_named.Goals.{then-is-kept, else-is-kept}
+use Rattle.scans.proofs.prices.kept_named.Goals.{then-is_kept, else-is_kept}
 
 pub named-requires : goal.named-requires
 named-requires g c = All-get_or (λ r. known_decisions 64 (condition r) ≡ true) c.args.rows.now c.loop-i.i _ c.loop-i-test.true c.requires.known
@@ -27,14 +27,14 @@ loop-i-preserved g c x =
     let p = from_bytes c.args.plan.now in
     let i = c.loop-i.i in
     let later = c.requires.costs (i + 1) _ (omega arith) (omega arith) in
-    elim c.if-is-kept.branch [
-      | then-is-kept w ↦
-          gather_kept p rs i _ c.loop-i-test.true m c.args.best c.loop-i.before _ c.if-is-kept.before (members c.loop-i.set) (members c.if-is-kept.set) (members w.named.result)
-          later (sym w.if-is-kept.ensures) (w.before-is ∙ w.join-before.ensures ∙ ap (m.joins c.loop-i.before) w.read.ensures) w.named.ensures (ap members w.set-is ∙ w.union-set.ensures) x
+    elim c.if-is_kept.branch [
+      | then-is_kept w ↦
+          gather_kept p rs i _ c.loop-i-test.true m c.args.best c.loop-i.before _ c.if-is_kept.before (members c.loop-i.set) (members c.if-is_kept.set) (members w.named.result)
+          later (sym w.if-is_kept.ensures) (w.before-is ∙ w.join-before.ensures ∙ ap (m.joins c.loop-i.before) w.read.ensures) w.named.ensures (ap members w.set-is ∙ w.union-set.ensures) x
           ∙ c.loop-i.invariant x
-      | else-is-kept w ↦
+      | else-is_kept w ↦
           ap₂ (λ (s : DecisionSet) b. members s x || named_in (kept m c.args.best b (drop (i + 1) rs) p) x) w.set-is w.before-is
-          ∙ ap (λ (b : Bool). members c.loop-i.set x || b) (skip_spared p rs i _ c.loop-i-test.true m c.args.best c.loop-i.before _ x later (sym w.if-is-kept.ensures))
+          ∙ ap (λ (b : Bool). members c.loop-i.set x || b) (skip_spared p rs i _ c.loop-i-test.true m c.args.best c.loop-i.before _ x later (sym w.if-is_kept.ensures))
           ∙ c.loop-i.invariant x
     ]
 

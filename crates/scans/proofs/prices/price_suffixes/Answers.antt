@@ -27,7 +27,7 @@ loop-i-preserved g c =
     let most : j ≤ length rs = omega arith in
     let room : length rs < length c.loop-i.after = omega (arith, c.loop-i.invariant.0) in
     let back : j - 1 + 1 ≡ j = omega arith in
-    let now-costs = cost_before m rs p (j - 1) _ (omega arith) c.price-before-cost.result _ c.price-before-cost.ensures (rw back c.loop-i.invariant.1.1) in (
-      length-set c.loop-i.after (j - 1) c.price-before-cost.result ∙ c.loop-i.invariant.0,
-      (suffixes_more m rs p c.loop-i.after c.price-before-cost.result j pos most room now-costs c.loop-i.invariant.1.0, now-costs),
+    let now-costs = cost_before m rs p (j - 1) _ (omega arith) c.price_before-cost.result _ c.price_before-cost.ensures (rw back c.loop-i.invariant.1.1) in (
+      length-set c.loop-i.after (j - 1) c.price_before-cost.result ∙ c.loop-i.invariant.0,
+      (suffixes_more m rs p c.loop-i.after c.price_before-cost.result j pos most room now-costs c.loop-i.invariant.1.0, now-costs),
     )

@@ -10,24 +10,24 @@ use Rattle.planner.proofs.Called.{accepts, refuses, rule_accepted, rule_refused}
 use Rattle.planner.proofs.Shaped.{rule_shaped}
 use Rattle.planner.proofs.planner.Planner.add.Goals as goal
 
-pub returns-in-err-check-row : goal.returns-in-err-check-row
-returns-in-err-check-row g c =
+pub returns-in_err-check_row : goal.returns-in_err-check_row
+returns-in_err-check_row g c =
     let m = g.M.Measure.meaning in
     let a = account_of c.args.self.now in
     let row = c.row-row.result in
     let ds = c.decisions.result.now in
-    let p = err_from_is_err_and c.from-residual.result c.from-residual.ensures.1 in
-    let why = refused_some (row_refusal ds row) _ (sym c.in-err-check-row.ensures) in
+    let p = err_from_is_err_and c.from_residual.result c.from_residual.ensures.1 in
+    let why = refused_some (row_refusal ds row) _ (sym c.in_err-check_row.ensures) in
     let (told, left) = refuses m a (add c.args.rule.now) _ (rule_refused m a c.args.rule.now row ds (held a.book row.kind) c.row-row.ensures c.decisions.ensures.value refl _ why) in
     record { value = rw (p.1, p.2) told; after = left }
 
-pub put-in-requires : goal.put-in-requires
-put-in-requires g c =
-    let none = accepted_none (row_refusal c.decisions.result.now c.row-row.result) _ (sym c.in-ok-check-row.ensures) in (
+pub put_in-requires : goal.put_in-requires
+put_in-requires g c =
+    let none = accepted_none (row_refusal c.decisions.result.now c.row-row.result) _ (sym c.in_ok-check_row.ensures) in (
       search rules,
       (
         rule_shaped c.args.rule.now c.row-row.result c.decisions.result.now c.row-row.ensures c.decisions.ensures.few none,
-        omega (arith, c.if-rows-ge-MOST-RULES.false, ap length c.rows.ensures.value),
+        omega (arith, c.if-rows-ge-MOST_RULES.false, ap length c.rows.ensures.value),
       ),
     )
 
@@ -37,8 +37,8 @@ returns g c =
     let a = account_of c.args.self.now in
     let row = c.row-row.result in
     let ds = c.decisions.result.now in
-    let none = accepted_none (row_refusal ds row) _ (sym c.in-ok-check-row.ensures) in
+    let none = accepted_none (row_refusal ds row) _ (sym c.in_ok-check_row.ensures) in
     let (told, left) =
     accepts m a (add c.args.rule.now)
-    (rule_accepted m a c.args.rule.now row ds c.rows.result.now c.row-row.ensures c.decisions.ensures.value c.rows.ensures.value none c.if-rows-ge-MOST-RULES.false) in
-    record { value = told; after = c.put-in.ensures ∙ ap (λ (r : Row). added m a r.kind r) c.row-row.ensures ∙ left }
+    (rule_accepted m a c.args.rule.now row ds c.rows.result.now c.row-row.ensures c.decisions.ensures.value c.rows.ensures.value none c.if-rows-ge-MOST_RULES.false) in
+    record { value = told; after = c.put_in.ensures ∙ ap (λ (r : Row). added m a r.kind r) c.row-row.ensures ∙ left }

@@ -15,7 +15,7 @@ returns-in-Some g c =
     let full : length c.in-Some.best.plan ≡ 64 = search rules in
     record {
       value =
-          best_reported m a (length c.decisions-count.result.now) c.in-Some.best.plan buffer c.copy-from-slice.new.self (best_of c.in-Some.best) same (omega (arith, c.decisions-count.ensures.few, full)) (omega arith)
-          (ap (option_map best_of) c.in-Some.is) refl c.copy-from-slice.ensures.after;
+          best_reported m a (length c.decisions-count.result.now) c.in-Some.best.plan buffer c.copy_from_slice.new.self (best_of c.in-Some.best) same (omega (arith, c.decisions-count.ensures.few, full)) (omega arith)
+          (ap (option_map best_of) c.in-Some.is) refl c.copy_from_slice.ensures.after;
       kept = λ e. absurd (true≢false e);
     }

@@ -10,23 +10,23 @@ use Rattle.planner.proofs.planner.Planner.extend.Goals as goal
 
 pub push-requires : goal.push-requires
 push-requires g c =
-    let (low, high) = free_value (exclusions_of c.try-values.new.exclusions c.args.decision) c.size-of-size.result c.in-Some.value (sym c.in-Some.ensures) in
+    let (low, high) = free_value (exclusions_of c.try_values.new.exclusions c.args.decision) c.size_of-size.result c.in-Some.value (sym c.in-Some.ensures) in
     record {
       known = omega (arith, c.requires.known, book_few c.args.self.now.book);
       some = low;
-      few = omega (arith, high, c.size-of-size.ensures.few);
+      few = omega (arith, high, c.size_of-size.ensures.few);
       idle = c.requires.idle;
     }
 
 pub returns-in-Some : goal.returns-in-Some
 returns-in-Some g c =
-    entered g.M.Measure.meaning (account_of c.args.self.now) c.args.decision c.size-of-size.result c.best-cost-best.result (from_bytes c.plan.result.now) (exclusions_of c.try-values.new.exclusions)
-    c.size-of-size.ensures.value c.best-cost-best.ensures c.plan.ensures.value c.try-values.ensures.after c.in-Some.value (members c.support-of-support.result) (trail_of c.push.new.self)
-    c.support-of-support.ensures c.in-Some.ensures c.push.ensures
+    entered g.M.Measure.meaning (account_of c.args.self.now) c.args.decision c.size_of-size.result c.best_cost-best.result (from_bytes c.plan.result.now) (exclusions_of c.try_values.new.exclusions)
+    c.size_of-size.ensures.value c.best_cost-best.ensures c.plan.ensures.value c.try_values.ensures.after c.in-Some.value (members c.support_of-support.result) (trail_of c.push.new.self)
+    c.support_of-support.ensures c.in-Some.ensures c.push.ensures
 
 pub returns-in-None : goal.returns-in-None
 returns-in-None g c =
     c.retreat.ensures
-    ∙ stuck g.M.Measure.meaning (account_of c.args.self.now) c.args.decision c.size-of-size.result c.best-cost-best.result (from_bytes c.plan.result.now) (exclusions_of c.try-values.new.exclusions)
-    c.size-of-size.ensures.value c.best-cost-best.ensures c.plan.ensures.value c.try-values.ensures.after (members c.support-of-support.result) (members c.reasons-of.result) (members c.union-blamed.result)
-    c.any-rests-rests.result c.support-of-support.ensures c.in-None.ensures c.reasons-of.ensures c.any-rests-rests.ensures c.union-blamed.ensures
+    ∙ stuck g.M.Measure.meaning (account_of c.args.self.now) c.args.decision c.size_of-size.result c.best_cost-best.result (from_bytes c.plan.result.now) (exclusions_of c.try_values.new.exclusions)
+    c.size_of-size.ensures.value c.best_cost-best.ensures c.plan.ensures.value c.try_values.ensures.after (members c.support_of-support.result) (members c.reasons_of.result) (members c.union-blamed.result)
+    c.any_rests-rests.result c.support_of-support.ensures c.in-None.ensures c.reasons_of.ensures c.any_rests-rests.ensures c.union-blamed.ensures

@@ -23,21 +23,21 @@ laws g =
       parts = g.met.M.Measure.joined_is_at_least_each_part;
     }
 
-pub returns-in-err-check-decisions : goal.returns-in-err-check-decisions
-returns-in-err-check-decisions g c =
-    let p = err_from_is_err_and c.from-residual.result c.from-residual.ensures.1 in
+pub returns-in_err-check_decisions : goal.returns-in_err-check_decisions
+returns-in_err-check_decisions g c =
+    let p = err_from_is_err_and c.from_residual.result c.from_residual.ensures.1 in
     record {
-      value = rw (p.1, p.2) c.in-err-check-decisions.ensures;
-      after = refused_old (open_refusal c.args.decisions.now) _ _ _ (sym c.in-err-check-decisions.ensures);
+      value = rw (p.1, p.2) c.in_err-check_decisions.ensures;
+      after = refused_old (open_refusal c.args.decisions.now) _ _ _ (sym c.in_err-check_decisions.ensures);
       law = λ ok. planning g.M.Measure.meaning (laws g) c.args.decisions.now ok;
     }
 
 pub returns : goal.returns
 returns g c =
     let ds = c.args.decisions.now in
-    let none = accepted_none (open_refusal ds) _ (sym c.in-ok-check-decisions.ensures) in
+    let none = accepted_none (open_refusal ds) _ (sym c.in_ok-check_decisions.ensures) in
     record {
-      value = c.in-ok-check-decisions.ensures;
+      value = c.in_ok-check_decisions.ensures;
       after = c.reset.ensures ∙ ap (λ o. unless_refused o (account_of c.args.self.now) (fresh ds)) (sym none);
       law = λ ok. planning g.M.Measure.meaning (laws g) ds ok;
     }

@@ -8,4 +8,4 @@ use Rattle.tables.proofs.exclusions.Exclusions.keep_empty.Goals as goal
 pub returns : goal.returns
 returns c =
     c.retain.ensures
-    ∙ fun_ext (λ (d : ℕ). fun_ext (λ (v : ℕ). keep_empty_is (members c.first-decisions.result) c.args.count c.args.resting c.requires c.first-decisions.ensures (exclusions_of c.args.self.now d v)))
+    ∙ fun_ext (λ (d : ℕ). fun_ext (λ (v : ℕ). keep_empty_is (members c.first_decisions.result) c.args.count c.args.resting c.requires c.first_decisions.ensures (exclusions_of c.args.self.now d v)))

@@ -13,7 +13,7 @@ loop-d-preserved c =
     let d = c.loop-d.d in
     through_more keep (exclusions_of c.args.self.now) (exclusions_of x) (exclusions_of c.if-self-at-ne0.self) d c.loop-d.invariant
     (elim c.if-self-at-ne0.branch [
-      | then-self-at-ne0 w ↦ (λ y v. ap (λ (z : Exclusions). exclusions_of z y v) w.self-is ∙ spared_at keep x d w.spared-values.result c.loop-d-test.true (omega arith) w.spared-values.ensures y v)
+      | then-self-at-ne0 w ↦ (λ y v. ap (λ (z : Exclusions). exclusions_of z y v) w.self-is ∙ spared_at keep x d w.spared_values.result c.loop-d-test.true (omega arith) w.spared_values.ensures y v)
       | else-self-at-ne0 w ↦ (λ y v. ap (λ (z : Exclusions). exclusions_of z y v) w.self-is ∙ spared_none keep x d w.if-self-at-ne0.false y v)
     ])
 

@@ -10,4 +10,4 @@ returns c =
     let x = c.args.self.now in
     let d = c.args.d in
     let t = values (get_or x.excluded d no_value) in
-    c.smallest-outside.ensures ∙ ap (smallest_outside t) (whole_size c.args.size c.requires.few) ∙ smallest_free_lem (exclusions_of x d) t (λ v. free_at x d v c.requires.known) c.args.size
+    c.smallest_outside.ensures ∙ ap (smallest_outside t) (whole_size c.args.size c.requires.few) ∙ smallest_free_lem (exclusions_of x d) t (λ v. free_at x d v c.requires.known) c.args.size

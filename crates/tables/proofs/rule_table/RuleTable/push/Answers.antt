@@ -4,17 +4,16 @@ use Rattle.tables.specs.Shapes.{all_shaped}
 use Rattle.tables.proofs.RowEdits.{shaped_push}
 use Rattle.tables.proofs.rule_table.RuleTable.push.Goals as goal
 
-pub invariant-of-self : goal.invariant-of-self
-invariant-of-self c =
+pub invariant_of-self : goal.invariant_of-self
+invariant_of-self c =
     let t = c.args.self.now in
     let room : t.count < 256 = omega (arith, length-take t.count t.rows, c.requires.room) in
-    let after = take_more_set t.rows t.count c.args.row (omega arith) in (
-      omega arith,
-      (
-        length-set t.rows t.count c.args.row ∙ t.full,
-        (ap all_shaped after ∙ shaped_push (take t.count t.rows) c.args.row t.shapes c.requires.shape, tt),
-      ),
-    )
+    let after = take_more_set t.rows t.count c.args.row (omega arith) in
+    record {
+      few = omega arith;
+      full = length-set t.rows t.count c.args.row ∙ t.full;
+      shapes = ap all_shaped after ∙ shaped_push (take t.count t.rows) c.args.row t.shapes c.requires.shape;
+    }
 
 pub returns : goal.returns
 returns c =
