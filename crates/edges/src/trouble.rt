@@ -3,7 +3,7 @@ use rules::Refusal;
 use std::io;
 
 /// A refusal where none is due, or output that fails.
-#[derive(Drop)]
+#[derive(Debug, Drop)]
 pub enum Trouble {
     Refused(Refusal),
     Output(io::Error),

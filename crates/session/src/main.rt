@@ -13,7 +13,7 @@ mod shown;
 const AMPLE: u32 = 1000;
 
 /// Why the program stops.
-#[derive(Drop)]
+#[derive(Debug, Drop)]
 enum Trouble {
     Refused(Refusal),
     Output(io::Error),
