@@ -1,4 +1,6 @@
 //! The account of a planner's calls, and the law of planning over whole lists of them.
+#![tactic(auto)]
+
 ghost use Rattle.account.specs.Law.{LawfulIsTested, Planning};
 ghost use Rattle.account.specs.Worked.{AllShown};
 

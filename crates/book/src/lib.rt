@@ -1,4 +1,5 @@
 //! Rule books as text: load, write, and the texts of outcomes and faults.
+#![tactic(auto)]
 
 mod carrying;
 mod loading;

@@ -1,4 +1,6 @@
 //! Loads many books, most of them damaged, and prints the fault of each.
+#![tactic(auto)]
+
 use anyhow::anyhow;
 use book::{load, write_fault};
 use frames::{next_frame, repeat};

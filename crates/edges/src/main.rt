@@ -1,4 +1,6 @@
 //! Calls at the edges of what is accepted, a line for each with its answer or its refusal's number.
+#![tactic(auto)]
+
 use measure::Cents;
 use planner::Planner;
 use trouble::Trouble;

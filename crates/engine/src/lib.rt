@@ -1,4 +1,5 @@
 //! A planner in cents for Rust or C to link: a book in bytes goes in, the outcome of a run comes out.
+#![tactic(auto)]
 
 mod decoding;
 mod fault;

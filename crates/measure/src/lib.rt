@@ -1,4 +1,6 @@
 //! What a price costs: the trait `Measure`, and the measures that are supplied.
+#![tactic(auto)]
+
 ghost use Rattle.std.specs.Prelude.{◌≡◌, ℕ, true, ◌⊎◌};
 ghost use Rattle.measure.specs.Meaning.{Meaning};
 

@@ -1,4 +1,6 @@
 //! Plans a rule book: reads it on standard input, and prints the plan or the book's fault.
+#![tactic(auto)]
+
 use anyhow::anyhow;
 use book::plan_book;
 use input::read_input;

@@ -1,4 +1,5 @@
 //! The planner: rules in, the cheapest lawful plan out, by dynamic backtracking with branch and bound.
+#![tactic(auto)]
 
 mod best;
 mod book;

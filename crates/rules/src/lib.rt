@@ -1,4 +1,5 @@
 //! Decisions, rules and plans: composing a rule, and judging a plan by the rules.
+#![tactic(auto)]
 
 mod active;
 mod checks;

@@ -1,4 +1,5 @@
 //! The scans over rules that a step of the search makes.
+#![tactic(auto)]
 
 mod activates;
 mod forbids;

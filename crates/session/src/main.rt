@@ -1,4 +1,6 @@
 //! Takes the worked book through a planner, and prints each call with its answer.
+#![tactic(auto)]
+
 use book::{forbid, pair};
 use measure::{Cents, Measure, Tier};
 use planner::Planner;

@@ -1,4 +1,5 @@
 //! Small sets of decisions and of values, a bit for each.
+#![tactic(auto)]
 
 mod decision_set;
 mod value_set;

@@ -1,4 +1,5 @@
 //! The tables that a planner searches with: its rules, its trail, and what it has excluded.
+#![tactic(auto)]
 
 mod entry;
 mod exclusions;
