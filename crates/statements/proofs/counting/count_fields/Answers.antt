@@ -19,4 +19,4 @@ loop-field-preserved c =
     )
 
 pub returns : goal.returns
-returns c = sym (c.loop-field.invariant.0 ∙ no_field c.args.kind c.loop-field.count _ _ c.in-default.ensures.0)
+returns c = sym (c.loop-field.invariant.0 ∙ no_field c.args.kind c.loop-field.count _ _ c.in_default.ensures.0)
