@@ -1,4 +1,4 @@
-use Rattle.std.proofs.Common.{◌≡◌, ℕ, ◌+◌, length, Err, sym, ap, ◌∙◌, arith}
+use Rattle.std.proofs.Common.{Err, sym, ap, ◌∙◌, arith}
 use Rattle.reading.specs.Cursors.{left}
 use Rattle.statements.proofs.Counts.{bad_field, good_field, no_field}
 use Rattle.statements.proofs.counting.count_fields.Goals as goal

@@ -1,8 +1,7 @@
-use Rattle.std.proofs.Common.{◌≡◌, ℕ, List, take, drop, Ok, Err, sym, ap, ◌∙◌}
-use Rattle.reading.specs.Numbers.{number_up_to}
+use Rattle.std.proofs.Common.{sym, ap, ◌∙◌}
 use Rattle.statements.specs.Forms.{mark_of}
-use Rattle.statements.specs.Statements.{formed, front, past, read_pairs}
-use Rattle.statements.specs.Views.{on_ok, pairs_of, place, remaining, stated_of}
+use Rattle.statements.specs.Statements.{formed, front}
+use Rattle.statements.specs.Views.{on_ok, place, remaining, stated_of}
 use Rattle.statements.proofs.FieldReads.{at_next, decision_read, handed, mark_bad, size_bad}
 use Rattle.statements.proofs.reading_line.read_decision.Goals as goal
 

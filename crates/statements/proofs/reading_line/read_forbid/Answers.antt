@@ -1,8 +1,7 @@
-use Rattle.std.proofs.Common.{◌≡◌, ℕ, List, take, drop, Ok, Err, sym, ap, ◌∙◌}
-use Rattle.reading.specs.Numbers.{number_up_to}
+use Rattle.std.proofs.Common.{ℕ, Ok, Err, sym, ap, ◌∙◌}
 use Rattle.rules.specs.Compose.{free}
 use Rattle.rules.specs.declared.row.Kind.TheVariants.{Forbid}
-use Rattle.statements.specs.Statements.{formed, front, past, read_pairs, ruled}
+use Rattle.statements.specs.Statements.{ruled}
 use Rattle.statements.specs.Views.{on_ok, pairs_of, place, remaining, stated_of}
 use Rattle.statements.proofs.FieldReads.{forbid_read, handed}
 use Rattle.statements.proofs.reading_line.read_forbid.Goals as goal

@@ -1,4 +1,4 @@
-use Rattle.std.proofs.Common.{◌≡◌, Ok, Err, sym, ap, ◌∙◌}
+use Rattle.std.proofs.Common.{Ok, Err, sym, ap, ◌∙◌}
 use Rattle.statements.specs.Views.{line_of, on_ok, stated_of}
 use Rattle.statements.proofs.FieldReads.{handed}
 use Rattle.statements.proofs.LineReads.{line_checked, line_late, line_unknown}

@@ -1,4 +1,4 @@
-use Rattle.std.proofs.Common.{◌≡◌, ℕ, List, take, drop, Ok, Err, sym, ap, ◌∙◌}
+use Rattle.std.proofs.Common.{ℕ, take, drop, Ok, Err, sym, ap, ◌∙◌}
 use Rattle.reading.specs.Numbers.{number_up_to}
 use Rattle.rules.specs.declared.row.Kind.TheVariants.{Price as Priced}
 use Rattle.statements.specs.Statements.{formed, front, past, read_pairs, ruled}

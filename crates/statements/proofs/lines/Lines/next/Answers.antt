@@ -1,6 +1,6 @@
 use Rattle.std.proofs.Common.{◌≡◌, ℕ, ◌+◌, ◌-◌, Bool, not, ◌∷◌, length, take, drop, sym, ap, ◌∙◌, add-sub_cancel}
 use Rattle.reading.specs.Cursors.{left}
-use Rattle.statements.specs.Lines.{TextLine, numbered}
+use Rattle.statements.specs.Lines.{numbered}
 use Rattle.statements.proofs.Numbering.{no_line, end_of_lines, one_line}
 use Rattle.statements.proofs.lines.Lines.next.Goals as goal
 
