@@ -1,5 +1,5 @@
 -- Tricky lines, and what each states or why it is refused. All follow by computing from the definitions.
-use Rattle.std.specs.Prelude.{◌≡◌, ℕ, Bool, true, false, List, [], ◌∷◌, Ok, Err, codes, Result}
+use Rattle.std.specs.Prelude.{◌≡◌, ℕ, true, false, List, [], ◌∷◌, Ok, Err, codes, Result}
 use Rattle.rules.specs.Compose.{free}
 use Rattle.rules.specs.declared.literal.Literal.{Literal}
 use Rattle.rules.specs.declared.refusal.Refusal.{Refusal}
