@@ -3,7 +3,7 @@ use Rattle.std.proofs.Common.{◌≡◌, ℕ, suc, ◌+◌, ◌<◌, true, false
 use Rattle.std.specs.List.{AllByRecursion as All}
 use Rattle.std.proofs.lemmas.List.{append_cancel_right, take-append-le, take_all}
 use Rattle.std.proofs.lemmas.Bool.{cond-true, cond-false, eqb-true, eq-eqb, ne_eqb}
-use Rattle.reading.specs.Pieces.{before, is_nil, longer, pieces}
+use Rattle.reading.specs.Pieces.{before, longer, pieces}
 use Rattle.reading.proofs.Cuts.{cut_last}
 use Rattle.rendering.specs.Texts.{ended, spaced}
 

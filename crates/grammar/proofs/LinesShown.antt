@@ -21,7 +21,7 @@ counts_shown = record { nothing = refl; trailing_space = refl; two_spaces = refl
 
 forms_shown : FormsShown
 unfolding first_bad number_up_to pair_of pieces read_activate read_decision read_forbid read_line read_pairs read_price
-forms_shown = record { leading_zero_lem = refl; zero = refl; large = refl; mark = refl; two_signs = refl; leftmost = refl; large_cents = refl }
+forms_shown = record { leading_zero = refl; zero = refl; large = refl; mark = refl; two_signs = refl; leftmost = refl; large_cents = refl }
 
 pairs_shown : PairsShown
 unfolding first_bad number_up_to pair_of pieces read_activate read_decision read_forbid read_line read_pairs read_price

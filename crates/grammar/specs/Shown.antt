@@ -1,5 +1,5 @@
 -- Tricky lines, and what each states or why it is refused. All follow by computing from the definitions.
-use Rattle.std.specs.Prelude.{◌≡◌, ℕ, Bool, true, false, List, [], ◌∷◌, Ok, Err, codes, Result}
+use Rattle.std.specs.Prelude.{◌≡◌, ℕ, true, false, List, [], ◌∷◌, Ok, Err, codes, Result}
 use Rattle.rules.specs.Compose.{free}
 use Rattle.rules.specs.declared.literal.Literal.{Literal}
 use Rattle.rules.specs.declared.refusal.Refusal.{Refusal}
@@ -47,7 +47,7 @@ pub record CountsShown : Type 0 where
 
 -- fields that are not of their form: the leftmost is reported
 pub record FormsShown : Type 0 where
-  pub leading_zero_lem : fourth (codes "D 03 on") ≡ faulty MalformedField 3
+  pub leading_zero : fourth (codes "D 03 on") ≡ faulty MalformedField 3
   pub zero : fourth (codes "A 0 0=1") ≡ Ok (rules Activate (pair 0 1 ∷ []) 0 free)
   pub large : fourth (codes "D 256 on") ≡ faulty MalformedField 3
   pub mark : fourth (codes "D 3 On") ≡ faulty MalformedField 5

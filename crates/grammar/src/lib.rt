@@ -1,4 +1,6 @@
 //! Lines and texts: a line is read as what it states and only that, and a text is its lines.
+#![tactic(auto)]
+
 ghost use Rattle.grammar.specs.Laws.{LinesOfText, ReadsOnlyText, TextIsRead, TextOfLines};
 ghost use Rattle.grammar.specs.Shown.{TrickyLines};
 

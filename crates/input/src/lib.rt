@@ -1,4 +1,6 @@
 //! Standard input in a buffer of fixed size.
+#![tactic(auto)]
+
 ghost use Rattle.std.specs.Prelude.{◌≤◌, length, IfOk};
 
 use std::io;

@@ -1,9 +1,7 @@
 -- Which texts are numbers.
-use Rattle.std.proofs.Common.{◌≡◌, ℕ, ◌+◌, ◌-◌, ◌*◌, ◌^◌, ◌<◌, ◌≤◌, Bool, true, false, cond, not, ◌&&◌, eqb, ltb, leb, List, [], ◌∷◌, length, get_or, drop, Some, None, decimal, Option, sym, refl, ap, ◌∙◌, ⊎_elim, arith, rules}
-use Rattle.std.specs.Char.{is_ascii_digit}
+use Rattle.std.proofs.Common.{◌≡◌, ℕ, ◌+◌, ◌-◌, ◌*◌, ◌^◌, ◌<◌, ◌≤◌, true, false, not, ◌&&◌, eqb, ltb, leb, List, [], ◌∷◌, length, get_or, Some, None, decimal, sym, ap, ◌∙◌, ⊎_elim, arith, rules}
 use Rattle.std.specs.Str.{all_ascii_digits}
-use Rattle.std.proofs.lemmas.List.{at_drop_more, at_drop_all}
-use Rattle.std.proofs.lemmas.Bool.{and_from, and_cases, and_parts, cases_Bool, cases_lt, ne_eqb, leb-true, ltb-true, and_left, and_right, cond-false, cond-true, eqb-true, le-leb, le-ltb, lt-leb, lt-ltb, not_from_false, not_from_true, not-true, eqb-false, ltb-false}
+use Rattle.std.proofs.lemmas.Bool.{and_from, and_cases, and_parts, cases_Bool, cases_lt, ne_eqb, leb-true, ltb-true, and_left, and_right, cond-false, cond-true, le-leb, le-ltb, lt-leb, lt-ltb, not_from_false, not_from_true, not-true, eqb-false, ltb-false}
 use Rattle.std.proofs.lemmas.Fmt.{decimal_digit, decimal_nonempty, decimal-digits_value, digits_decimal, first_decimal, digits_value-decimal}
 use Rattle.std.proofs.lemmas.Str.Parse.{IsNumeralModel, numerals_by_fold}
 use Rattle.reading.specs.Numbers.{is_number, leading_zero, number_up_to, value, value_from}

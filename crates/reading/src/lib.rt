@@ -1,5 +1,7 @@
 //! Reading text: the pieces between one byte and the next, numbers and words.
 
+#![tactic(auto)]
+
 mod numbers;
 mod pieces;
 

@@ -1,5 +1,7 @@
 //! The text of decisions, rules, faults and outcomes, written into a caller's buffer.
 
+#![tactic(auto)]
+
 mod decisions;
 mod fault;
 mod field;

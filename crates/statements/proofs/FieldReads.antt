@@ -1,5 +1,5 @@
 -- What is read from the fields of a line, step by step.
-use Rattle.std.proofs.Common.{◌≡◌, ℕ, ◌+◌, ◌<◌, ◌≤◌, Bool, true, false, not, ◌&&◌, leb, List, [], ◌∷◌, length, take, drop, IsErrAnd, Ok, Err, Result, sym, refl, ap, ◌∙◌, ⊎_elim, arith}
+use Rattle.std.proofs.Common.{◌≡◌, ℕ, ◌<◌, ◌≤◌, Bool, not, leb, List, length, take, drop, IsErrAnd, Ok, Err, Result, sym, ap, ◌∙◌, ⊎_elim, arith}
 use Rattle.std.proofs.lemmas.List.{length-take-le, take_all}
 use Rattle.std.proofs.lemmas.Result.{err_from_is_err_and}
 use Rattle.std.proofs.lemmas.Bool.{and_right, cases_lt, lt-leb}
@@ -12,7 +12,7 @@ use Rattle.rules.specs.declared.refusal.Refusal.TheVariants.{PairCount}
 use Rattle.rules.specs.declared.row.Kind.{Kind}
 use Rattle.rules.specs.declared.row.Kind.TheVariants.{Forbid, Activate, Price as Priced}
 use Rattle.statements.specs.Forms.{mark_of}
-use Rattle.statements.specs.Statements.{Stated, decides, fault, formed, front, past, read_activate, read_decision, read_forbid, read_pairs, read_price, ruled, rules, then, unless}
+use Rattle.statements.specs.Statements.{decides, fault, formed, front, past, read_activate, read_decision, read_forbid, read_pairs, read_price, ruled, rules, then, unless}
 use Rattle.statements.specs.Views.{Advanced, on_ok, place, remaining}
 use Rattle.statements.specs.declared.fault.Fault.{Fault}
 use Rattle.statements.specs.declared.fields.Fields.{Fields}

@@ -1,5 +1,5 @@
 -- What a line states, in the order of its checks.
-use Rattle.std.proofs.Common.{◌≡◌, ℕ, Bool, true, false, ◌&&◌, List, Some, None, Ok, Err, Option, Result, sym, refl, ap, ◌∙◌}
+use Rattle.std.proofs.Common.{◌≡◌, Bool, true, false, ◌&&◌, Some, None, Ok, Err, Option, Result, sym, ap, ◌∙◌}
 use Rattle.std.specs.Option.{option_map}
 use Rattle.rules.specs.Refusals.{when}
 use Rattle.rules.specs.declared.refusal.Refusal.TheVariants.{UnknownLine, FieldCount, DecisionAfterRule}

@@ -1,8 +1,8 @@
 -- The lines of a text, one by one.
-use Rattle.std.proofs.Common.{◌≡◌, ℕ, ◌+◌, true, false, not, ◌&&◌, List, [], ◌∷◌, refl, ap, ◌∙◌}
+use Rattle.std.proofs.Common.{◌≡◌, ℕ, ◌+◌, true, false, not, ◌&&◌, List, [], ◌∷◌, ap, ◌∙◌}
 use Rattle.std.proofs.lemmas.Bool.{cond-false, cond-true}
 use Rattle.reading.specs.Pieces.{is_nil}
-use Rattle.statements.specs.Lines.{TextLine, numbered}
+use Rattle.statements.specs.Lines.{numbered}
 
 module _ (n : ℕ) where
   pub no_line : (qs : List (List ℕ)) → qs ≡ [] → numbered n qs ≡ []

@@ -15,8 +15,8 @@ fn is_mark(word: &str, field: &[u8]) -> bool
     ensures { result ≡ ((bytes_eq word.now (codes "on") || bytes_eq word.now (codes "off")) && bytes_eq word.now field.now) }
 {
     match word {
-        "on" => field == b"on",
-        "off" => field == b"off",
+        "on" => field == b"on".as_slice(),
+        "off" => field == b"off".as_slice(),
         _ => false,
     }
 }

@@ -1,5 +1,7 @@
 //! What the lines of a rule book state: their kinds, fields and forms, and the faults of a line.
 
+#![tactic(auto)]
+
 mod counting;
 mod fault;
 mod fields;

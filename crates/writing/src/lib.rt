@@ -1,5 +1,7 @@
 //! Writing text into a caller's buffer, with a first pass that only measures.
 
+#![tactic(auto)]
+
 mod text;
 mod writer;
 

@@ -5,4 +5,4 @@ use Rattle.rendering.proofs.decisions.put_decision.Goals as goal
 pub returns : goal.returns
 returns c =
     reworded (decision_pieces c.args.decision.now c.mark.result.now c.mark.ensures)
-    (joined (joined (joined c.byte.ensures c.put-number.ensures) c.put-word.ensures) c.byte-2.ensures)
+    (joined (joined (joined c.byte.ensures c.put_number.ensures) c.put_word.ensures) c.byte-2.ensures)

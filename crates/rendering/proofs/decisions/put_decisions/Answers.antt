@@ -11,7 +11,7 @@ loop-decision-init c = nothing c.args.writer.now c.args.buffer.now
 
 pub loop-decision-preserved : goal.loop-decision-preserved
 loop-decision-preserved c =
-    next_item (λ (ds : List Decision). ended (map decision_line ds)) (λ (i : ℕ) (d : Decision). decision_line d ++ 10 ∷ []) (ended_push decision_line) c.args.decisions.now c.loop-decision.decision-index absent c.loop-decision-test.true c.loop-decision.invariant c.put-decision.ensures
+    next_item (λ (ds : List Decision). ended (map decision_line ds)) (λ (i : ℕ) (d : Decision). decision_line d ++ 10 ∷ []) (ended_push decision_line) c.args.decisions.now c.loop-decision.decision-index absent c.loop-decision-test.true c.loop-decision.invariant c.put_decision.ensures
 
 pub returns : goal.returns
 returns c =

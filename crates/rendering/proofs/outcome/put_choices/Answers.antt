@@ -14,7 +14,7 @@ loop-decision-preserved c =
     let v = get_or c.args.plan.now i 0 in
     next_item (λ (vs : List ℕ). ended (choice_lines 0 vs)) (λ (d v : ℕ). ended (of_choice d v)) chosen_push c.args.plan.now i 0 c.loop-decision-test.true c.loop-decision.invariant
     (elim c.if-value-gt0.branch [
-      | then-value-gt0 w ↦ ending w.writer-is w.buffer-is (reworded (chosen_lines i v w.if-value-gt0.true) w.put-choice.ensures)
+      | then-value-gt0 w ↦ ending w.writer-is w.buffer-is (reworded (chosen_lines i v w.if-value-gt0.true) w.put_choice.ensures)
       | else-value-gt0 w ↦ ending w.writer-is w.buffer-is (reworded (idle_lines i v w.if-value-gt0.false) (nothing c.loop-decision.writer c.loop-decision.buffer))
     ])
 

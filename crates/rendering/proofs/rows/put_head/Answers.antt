@@ -7,9 +7,9 @@ returns-in-Forbid c =
     let row = c.args.row.now in reworded (forbid_head row.kind row.target row.price c.in-Forbid.is) (nothing c.args.writer.now c.args.buffer.now)
 
 pub returns-in-Activate : goal.returns-in-Activate
-returns-in-Activate c = let row = c.args.row.now in reworded (activate_head row.kind row.target row.price c.in-Activate.is) c.put-number.ensures
+returns-in-Activate c = let row = c.args.row.now in reworded (activate_head row.kind row.target row.price c.in-Activate.is) c.put_number.ensures
 
 pub returns-in-Price : goal.returns-in-Price
 returns-in-Price c =
     let row = c.args.row.now in
-    reworded (price_head row.kind row.target row.price c.in-Price.is) (joined c.put-number-in-Price.ensures c.put-number-in-Price-2.ensures)
+    reworded (price_head row.kind row.target row.price c.in-Price.is) (joined c.put_number-in-Price.ensures c.put_number-in-Price-2.ensures)

@@ -10,7 +10,7 @@ loop-row-init c = nothing c.args.writer.now c.args.buffer.now
 
 pub loop-row-preserved : goal.loop-row-preserved
 loop-row-preserved c =
-    next_item (λ (rs : List Row). ended (map rule_line rs)) (λ (i : ℕ) (r : Row). rule_line r ++ 10 ∷ []) (ended_push rule_line) c.args.rows.now c.loop-row.row-index _ c.loop-row-test.true c.loop-row.invariant c.put-rule.ensures
+    next_item (λ (rs : List Row). ended (map rule_line rs)) (λ (i : ℕ) (r : Row). rule_line r ++ 10 ∷ []) (ended_push rule_line) c.args.rows.now c.loop-row.row-index _ c.loop-row-test.true c.loop-row.invariant c.put_rule.ensures
 
 pub returns : goal.returns
 returns c = all_items (λ (rs : List Row). ended (map rule_line rs)) c.args.rows.now c.loop-row.row-index c.loop-row-test.false c.loop-row.invariant

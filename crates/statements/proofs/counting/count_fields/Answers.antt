@@ -1,4 +1,4 @@
-use Rattle.std.proofs.Common.{◌≡◌, ℕ, ◌+◌, length, Err, sym, ap, ◌∙◌, arith}
+use Rattle.std.proofs.Common.{Err, sym, ap, ◌∙◌, arith}
 use Rattle.reading.specs.Cursors.{left}
 use Rattle.statements.proofs.Counts.{bad_field, good_field, no_field}
 use Rattle.statements.proofs.counting.count_fields.Goals as goal
@@ -19,4 +19,4 @@ loop-field-preserved c =
     )
 
 pub returns : goal.returns
-returns c = sym (c.loop-field.invariant.0 ∙ no_field c.args.kind c.loop-field.count _ _ c.in-default.ensures.0)
+returns c = sym (c.loop-field.invariant.0 ∙ no_field c.args.kind c.loop-field.count _ _ c.in_default.ensures.0)

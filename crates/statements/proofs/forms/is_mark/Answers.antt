@@ -3,5 +3,5 @@ use Rattle.std.proofs.lemmas.Bool.{and_left, or_from}
 use Rattle.statements.proofs.Shapes.{apart}
 use Rattle.statements.proofs.forms.is_mark.Goals as goal
 
-pub returns-in-default : goal.returns-in-default
-returns-in-default c = sym (and_left _ _ (or_from _ _ (apart c.args.word.now _ c.in-default.not_on) (apart c.args.word.now _ c.in-default.not-off)))
+pub returns-in_default : goal.returns-in_default
+returns-in_default c = sym (and_left _ _ (or_from _ _ (apart c.args.word.now _ c.in_default.not-on) (apart c.args.word.now _ c.in_default.not-off)))

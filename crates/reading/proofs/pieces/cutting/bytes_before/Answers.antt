@@ -1,4 +1,4 @@
-use Rattle.std.proofs.Common.{◌≡◌, length, sym, ◌∙◌, arith}
+use Rattle.std.proofs.Common.{arith}
 use Rattle.reading.proofs.Cuts.{before_more, before_found, before_all}
 use Rattle.reading.proofs.pieces.cutting.bytes_before.Goals as goal
 

@@ -8,31 +8,31 @@ use Rattle.statements.specs.Views.{on_ok, pairs_of, place}
 use Rattle.statements.proofs.Gathers.{bad_pair, no_pair, one_pair}
 use Rattle.statements.proofs.fields.Fields.pairs.Goals as goal
 
-pub returns-in-err-pair : goal.returns-in-err-pair
-returns-in-err-pair c =
-    let p = err_from_is_err_and c.from-residual.result c.from-residual.ensures.1 in
+pub returns-in_err-pair : goal.returns-in_err-pair
+returns-in_err-pair c =
+    let p = err_from_is_err_and c.from_residual.result c.from_residual.ensures.1 in
     let took = c.in-Some.ensures in
     let n : ℕ = c.loop-field.self.line in
     let f : List ℕ = c.in-Some.field.bytes.now in
-    let bad : formed n (place c.loop-field.self) (pair_of f) ≡ Err c.in-err-pair.field-0.0 =
-    ap (λ (k : ℕ). formed n k (pair_of f)) (sym took.place) ∙ sym c.in-err-pair.ensures
+    let bad : formed n (place c.loop-field.self) (pair_of f) ≡ Err c.in_err-pair.field-0.0 =
+    ap (λ (k : ℕ). formed n k (pair_of f)) (sym took.place) ∙ sym c.in_err-pair.ensures
     in
     ap (on_ok pairs_of) p.1 ∙ ap Err p.2
-    ∙ sym (c.loop-field.invariant ∙ bad_pair n (place c.loop-field.self) (pairs_of c.loop-field.pairs) f _ (left c.next.new.self) c.in-err-pair.field-0.0 took.first bad)
+    ∙ sym (c.loop-field.invariant ∙ bad_pair n (place c.loop-field.self) (pairs_of c.loop-field.pairs) f _ (left c.next.new.self) c.in_err-pair.field-0.0 took.first bad)
 
 pub loop-field-preserved : goal.loop-field-preserved
 loop-field-preserved c =
     let took = c.in-Some.ensures in
     let n : ℕ = c.loop-field.self.line in
     let f : List ℕ = c.in-Some.field.bytes.now in
-    let good : formed n (place c.loop-field.self) (pair_of f) ≡ Ok c.in-ok-pair.field-0 =
-    ap (λ (k : ℕ). formed n k (pair_of f)) (sym took.place) ∙ sym c.in-ok-pair.ensures
+    let good : formed n (place c.loop-field.self) (pair_of f) ≡ Ok c.in_ok-pair.field-0 =
+    ap (λ (k : ℕ). formed n k (pair_of f)) (sym took.place) ∙ sym c.in_ok-pair.ensures
     in
     c.loop-field.invariant
-    ∙ one_pair n (place c.loop-field.self) (pairs_of c.loop-field.pairs) f _ (left c.next.new.self) c.in-ok-pair.field-0 _ _
+    ∙ one_pair n (place c.loop-field.self) (pairs_of c.loop-field.pairs) f _ (left c.next.new.self) c.in_ok-pair.field-0 _ _
     took.first good took.next c.push.ensures
 
 pub returns : goal.returns
 returns c =
     let few : length (pairs_of c.loop-field.pairs) ≤ 5 = omega (arith, length-take-le c.loop-field.pairs.count c.loop-field.pairs.list (omega (arith, c.loop-field.pairs.few, c.loop-field.pairs.full))) in
-    sym (c.loop-field.invariant ∙ no_pair _ _ (pairs_of c.loop-field.pairs) _ c.in-default.ensures.0 few)
+    sym (c.loop-field.invariant ∙ no_pair _ _ (pairs_of c.loop-field.pairs) _ c.in_default.ensures.0 few)

@@ -1,4 +1,3 @@
-use Rattle.std.proofs.Common.{sym, ◌∙◌}
 use Rattle.std.proofs.lemmas.Bool.{both_ways}
 use Rattle.writing.proofs.Writes.{one_more}
 use Rattle.writing.proofs.writer.Writer.byte.Goals as goal
