@@ -13,7 +13,6 @@ use Rattle.rules.specs.declared.literal.Literal.{Literal}
 use Rattle.rules.specs.declared.row.Kind.TheVariants.{Forbid, Activate, Price as Priced}
 use Rattle.rules.specs.declared.row.Row.{Row}
 use Rattle.account.specs.Accounts.{Account, Best}
-use Rattle.account.specs.Calls.{best}
 use Rattle.account.specs.Law.{same_pairs, same_rule, SameRules, OneCost}
 use Rattle.account.specs.declared.state.State.TheVariants.{Settled}
 use Rattle.account.proofs.Reports.{Told, told, least, none}

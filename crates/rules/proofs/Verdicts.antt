@@ -1,5 +1,5 @@
 -- What the loops of judging find is what a verdict says.
-use Rattle.std.proofs.Common.{◌≡◌, ℕ, suc, ◌+◌, ◌-◌, ◌<◌, ◌≤◌, Bool, true, false, cond, not, ◌&&◌, ◌||◌, eqb, ltb, ◌⊎◌, List, [], ◌∷◌, length, get_or, take, Some, None, Ok, sym, refl, ap, ◌∙◌, subst, ⊎_elim, arith, length-take, get_or-take}
+use Rattle.std.proofs.Common.{◌≡◌, ℕ, suc, ◌+◌, ◌-◌, ◌<◌, ◌≤◌, Bool, true, false, cond, not, ◌&&◌, ◌||◌, eqb, ltb, List, [], ◌∷◌, length, get_or, take, Some, None, Ok, sym, refl, ap, ◌∙◌, subst, ⊎_elim, arith, length-take, get_or-take}
 use mathlib.Core.Path.{fun_ext}
 use native.Mathlib.Nat.{sub-zero}
 use lib.ListN.{get_or-eq_default}
