@@ -95,7 +95,7 @@ fn meets_none(rows: &[Row], plan: &[u8]) -> bool
 pub fn is_lawful(decisions: &[Decision], forbids: &[Row], activates: &[Row], plan: &[u8]) -> bool
     requires few { length decisions.now ≤ 64 }
     requires short { length plan.now ≤ 64 }
-    ensures { (prices : List Row) → result ≡ is_lawful (record { decisions = decisions.entry.now; forbids = forbids.now; activates = activates.now; prices = prices }) (from_bytes plan.now) }
+    ensures { (prices : List Row) → result ≡ is_lawful (record { decisions = decisions.now; forbids = forbids.now; activates = activates.now; prices = prices }) (from_bytes plan.now) }
 {
     let active = active_decisions(decisions, activates, plan);
     all_fit(decisions, active, plan) && meets_none(forbids, plan)
