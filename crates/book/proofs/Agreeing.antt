@@ -1,7 +1,7 @@
 -- Load agrees with open and adds: what a text of decisions and rules is loaded as, or its fault.
 use Rattle.std.proofs.Common.{◌≡◌, ℕ, suc, ◌+◌, Bool, true, false, ◌||◌, List, [], ◌∷◌, ◌++◌, map, length, Some, None, Option, Result, sym, refl, ap, ◌∙◌, append_assoc, append-nil, add-zero, add_comm, arith}
 use Rattle.std.specs.Option.{option_map}
-use Rattle.std.specs.List.{AllByRecursion as All}
+use Rattle.std.specs.List.{AllByRecursion}
 use Rattle.std.proofs.ByRecursion.{All-append}
 use Rattle.std.proofs.lemmas.Bool.{and_right, le-leb}
 use Rattle.measure.specs.Meaning.{Meaning}
@@ -31,16 +31,16 @@ use Rattle.book.proofs.Linewise.{load_text}
 use Rattle.book.proofs.Rulings.{rule_lines, stated_fits, stated_rule}
 
 -- no line of these has a byte 10
-decisions_lack : (ds : List Decision) → All ByteSized ds → All (Lacks 10) (map decision_line ds)
+decisions_lack : (ds : List Decision) → AllByRecursion ByteSized ds → AllByRecursion (Lacks 10) (map decision_line ds)
 decisions_lack [] h = tt
 decisions_lack (d ∷ ds) h = (line_lacks (decides d) (le-leb d.size 255 h.0), decisions_lack ds h.1)
 
-rules_lack : (rs : List Rule) → All BytePaired rs → All IsExact rs → All (Lacks 10) (rule_lines rs)
+rules_lack : (rs : List Rule) → AllByRecursion BytePaired rs → AllByRecursion IsExact rs → AllByRecursion (Lacks 10) (rule_lines rs)
 rules_lack [] h exact = tt
 rules_lack (r ∷ rs) h exact = (line_lacks (stated_rule r) (stated_fits r h.0 exact.0), rules_lack rs h.1 exact.1)
 
 -- the lines of the text of decisions and rules
-pub lines_stated : (ds : List Decision) (rs : List Rule) → All ByteSized ds → All BytePaired rs → All IsExact rs → lines_of (stated_by ds rs) ≡ ended_lines 1 (map decision_line ds ++ rule_lines rs)
+pub lines_stated : (ds : List Decision) (rs : List Rule) → AllByRecursion ByteSized ds → AllByRecursion BytePaired rs → AllByRecursion IsExact rs → lines_of (stated_by ds rs) ≡ ended_lines 1 (map decision_line ds ++ rule_lines rs)
 lines_stated ds rs sizes pairs exact =
     lines_from 1 (map decision_line ds ++ rule_lines rs)
     (All-append (Lacks 10) (map decision_line ds) (rule_lines rs) (decisions_lack ds sizes) (rules_lack rs pairs exact))
@@ -52,7 +52,7 @@ unless_twice None p r = refl
 
 module _ {C : Type 0} (m : Meaning C) where
   -- the lines of decisions, and those behind them
-  pub load_decisions : (ds : List Decision) → All ByteSized ds → (n : ℕ) (before : List Decision) (ls : List (List ℕ)) → load_lines m false (fresh before) (ended_lines n (map decision_line ds ++ ls)) ≡ unless (opened_from m n before ds) (load_lines m false (fresh (before ++ ds)) (ended_lines (n + length ds) ls))
+  pub load_decisions : (ds : List Decision) → AllByRecursion ByteSized ds → (n : ℕ) (before : List Decision) (ls : List (List ℕ)) → load_lines m false (fresh before) (ended_lines n (map decision_line ds ++ ls)) ≡ unless (opened_from m n before ds) (load_lines m false (fresh (before ++ ds)) (ended_lines (n + length ds) ls))
   load_decisions [] h n before ls = rw (append-nil, add-zero)
   load_decisions (d ∷ ds) h n before ls =
       let here = option_map (λ (e : Refusal). fault e n 1) (open_refusal (before ++ d ∷ [])) in
@@ -76,7 +76,7 @@ module _ {C : Type 0} (m : Meaning C) where
       ∙ ap (add_refusal a) (sym (rule_composed r exact))
 
   -- the lines of rules
-  pub load_rules : (rs : List Rule) → All BytePaired rs → All IsExact rs → (began : Bool) (n : ℕ) (a : Account C) → load_lines m began a (ended_lines n (rule_lines rs)) ≡ added_from m n a rs
+  pub load_rules : (rs : List Rule) → AllByRecursion BytePaired rs → AllByRecursion IsExact rs → (began : Bool) (n : ℕ) (a : Account C) → load_lines m began a (ended_lines n (rule_lines rs)) ≡ added_from m n a rs
   load_rules [] h exact began n a = lines_end m began a [] refl
   load_rules (r ∷ rs) h exact began n a =
       let at : Refusal → Fault = λ e. fault e n 1 in

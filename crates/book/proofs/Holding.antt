@@ -5,7 +5,7 @@ use lib.ListN.{length-map}
 use Rattle.std.proofs.ByRecursion.{All-append, All-push, All-weaker}
 use Rattle.std.proofs.lemmas.List.{append-nil, append_assoc, map_push, take-map, drop-map}
 use Rattle.std.proofs.lemmas.Bool.{leb-false, lt-leb}
-use Rattle.std.specs.List.{remove, AllByRecursion as All}
+use Rattle.std.specs.List.{remove, AllByRecursion}
 use Rattle.measure.specs.Meaning.{Meaning}
 use Rattle.rules.specs.Judging.{row_refusal}
 use Rattle.rules.specs.Plans.{Book}
@@ -37,7 +37,7 @@ pub record Allowed (ds : List Decision) (k : Kind) (r : Rule) : Type 0 where
 pub record HeldRules (ds : List Decision) (k : Kind) (rows : List Row) : Type 0 where
   pub rules : List Rule
   pub rows_are : map row_of rules ≡ rows
-  pub allowed : All (Allowed ds k) rules
+  pub allowed : AllByRecursion (Allowed ds k) rules
   pub few : length rules ≤ 256
 
 -- a book over these decisions holds such rows of each kind
@@ -179,7 +179,7 @@ module _ {C : Type 0} (m : Meaning C) where
 
   -- allowed rules of one kind, added behind those held, where there is room for all
   pub adds_kind : (ds : List Decision) (k : Kind) (b : Book) → b.decisions ≡ ds → (old : List Row) (rs : List Rule) (a : Account C) → a.book ≡ with_rules b k old
-      → All (Allowed ds k) rs → length old + length rs ≤ 256 → Adds a rs (with_rules b k (old ++ map row_of rs))
+      → AllByRecursion (Allowed ds k) rs → length old + length rs ≤ 256 → Adds a rs (with_rules b k (old ++ map row_of rs))
   adds_kind ds k b over old [] a is all room = record { accepted = tt; book_is = is ∙ ap (λ (rows : List Row). with_rules b k rows) (sym (append-nil old)) }
   adds_kind ds k b over old (r ∷ rs) a is all room =
       let places : length (held a.book k) < 256 = omega (arith, ap (λ (c : Book). length (held c k)) is, ap length (with_same b k old)) in
@@ -205,12 +205,12 @@ rows_are ds b h =
     ∙ ap (λ (rows : List Row). b.forbids ++ (b.activates ++ rows)) ps.rows_are
 
 -- what holds of every allowed rule holds of all that are held
-pub all_rules : (ds : List Decision) (b : Book) (h : Holds ds b) (P : Rule → Type 0) → ((k : Kind) (r : Rule) → Allowed ds k r → P r) → All P (rules_of ds b h)
+pub all_rules : (ds : List Decision) (b : Book) (h : Holds ds b) (P : Rule → Type 0) → ((k : Kind) (r : Rule) → Allowed ds k r → P r) → AllByRecursion P (rules_of ds b h)
 all_rules ds b h P each =
     All-append P (h.by_kind Forbid).rules ((h.by_kind Activate).rules ++ (h.by_kind Price).rules) (all Forbid)
     (All-append P (h.by_kind Activate).rules (h.by_kind Price).rules (all Activate) (all Price))
   where
-    all : (k : Kind) → All P (h.by_kind k).rules
+    all : (k : Kind) → AllByRecursion P (h.by_kind k).rules
     all k = All-weaker (Allowed ds k) P (each k) (h.by_kind k).rules (h.by_kind k).allowed
 
 -- there are at most three tables of them

@@ -1,6 +1,6 @@
 -- Rules, and what their lines state.
 use Rattle.std.proofs.Common.{◌≡◌, ℕ, ◌≤◌, true, ◌&&◌, ◌||◌, eqb, leb, List, [], ◌∷◌, map, length, None, sym, refl, ap, arith, length-take}
-use Rattle.std.specs.List.{AllByRecursion as All}
+use Rattle.std.specs.List.{AllByRecursion}
 use Rattle.std.proofs.lemmas.Bool.{and_from, and_parts, eqb-true, le-leb, leb-true}
 use Rattle.measure.specs.declared.price.Price.{Price}
 use Rattle.rules.specs.Compose.{compose_refusal, composed, free, in_range, is_activate, is_exact, is_free, is_price}
@@ -56,7 +56,7 @@ abbrev pub stated_rule : Rule → Stated
 stated_rule r = rules r.row.kind (condition r.row) r.row.target r.row.price
 
 -- what it states fits
-bytes_fit : (ps : List Literal) → All (λ (l : Literal). (l.decision ≤ 255) × (l.value ≤ 255)) ps → fitting_pairs ps ≡ true
+bytes_fit : (ps : List Literal) → AllByRecursion (λ (l : Literal). (l.decision ≤ 255) × (l.value ≤ 255)) ps → fitting_pairs ps ≡ true
 bytes_fit [] h = refl
 bytes_fit (p ∷ ps) h =
     and_from (fitting_pair p) (fitting_pairs ps)

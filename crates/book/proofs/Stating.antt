@@ -1,7 +1,7 @@
 -- A text that is accepted states decisions and rules: it is read as those.
 use Rattle.std.proofs.Common.{◌≡◌, ℕ, Bool, true, false, cond, ltb, List, [], ◌∷◌, ◌++◌, map, length, None, Ok, Err, Result, sym, refl, ap, ◌∙◌, subst, append_assoc, append-nil}
 use Rattle.std.proofs.lemmas.Bool.{and_from, true≢false}
-use Rattle.std.specs.List.{AllByRecursion as All}
+use Rattle.std.specs.List.{AllByRecursion}
 use Rattle.measure.specs.Meaning.{Meaning}
 use Rattle.measure.specs.declared.price.Price.{Price}
 use Rattle.rules.specs.Compose.{compose_refusal, composed}
@@ -49,7 +49,7 @@ module _ {C : Type 0} (m : Meaning C) where
     stated : List Rule
     lines_are : bytes_of ls ≡ rule_lines stated
     are_ended : all_ended ls ≡ true
-    exact : All IsExact stated
+    exact : AllByRecursion IsExact stated
     adds : Accepted m a (map add stated)
     account_is : b ≡ history m a (map add stated)
 
@@ -59,7 +59,7 @@ module _ {C : Type 0} (m : Meaning C) where
     stated : List Rule
     lines_are : bytes_of ls ≡ map decision_line decided ++ rule_lines stated
     are_ended : all_ended ls ≡ true
-    exact : All IsExact stated
+    exact : AllByRecursion IsExact stated
     opens : open_refusal (before ++ decided) ≡ None
     adds : Accepted m (fresh (before ++ decided)) (map add stated)
     account_is : b ≡ history m (fresh (before ++ decided)) (map add stated)

@@ -1,7 +1,7 @@
 -- The laws of books as text: a book is read as the rules it states, load agrees with open and adds, and a written book loads as the same rules.
 use Rattle.std.specs.Prelude.{◌≡◌, ℕ, ◌+◌, ◌≤◌, true, List, [], ◌∷◌, ◌++◌, map, length, None, Ok, Option, Result}
 use Rattle.std.specs.Option.{option_map}
-use Rattle.std.specs.List.{AllByRecursion as All}
+use Rattle.std.specs.List.{AllByRecursion}
 use Rattle.measure.specs.Meaning.{Meaning}
 use Rattle.measure.specs.declared.price.Price.{Price}
 use Rattle.rules.specs.Compose.{compose_refusal, composed, is_exact, new_rule}
@@ -30,7 +30,7 @@ abbrev pub ByteSized : Decision → Type 0
 ByteSized d = d.size ≤ 255
 
 abbrev pub BytePaired : Rule → Type 0
-BytePaired r = All (λ (l : Literal). (l.decision ≤ 255) × (l.value ≤ 255)) (condition r.row)
+BytePaired r = AllByRecursion (λ (l : Literal). (l.decision ≤ 255) × (l.value ≤ 255)) (condition r.row)
 
 -- a rule has a target and a price in range, only what its kind has, and nothing behind its pairs, as every rule that new and compose make
 abbrev pub IsExact : Rule → Type 0
@@ -54,7 +54,7 @@ AddIsExact (unexcluded d) = Unit {0}
 
 -- every rule that these calls add is such a one
 abbrev pub AddsExact : List Call → Type 0
-AddsExact calls = All AddIsExact calls
+AddsExact calls = AllByRecursion AddIsExact calls
 
 -- the rules of a book as they are written: forbid rules, activate rules, price rules, each in place order
 abbrev pub rows_of : Book → List Row
@@ -81,7 +81,7 @@ module _ {C : Type 0} (m : Meaning C) where
     pub decisions : List Decision
     pub rules : List Rule
     pub text_is : text ≡ stated_by decisions rules
-    pub exact : All IsExact rules
+    pub exact : AllByRecursion IsExact rules
     pub opens : open_refusal decisions ≡ None
     pub adds : Accepted (fresh decisions) (map add rules)
     pub account_is : a ≡ history m (fresh decisions) (map add rules)
@@ -93,7 +93,7 @@ module _ {C : Type 0} (m : Meaning C) where
   -- load agrees with open and adds of rules that new and compose make, refusals too
   abbrev pub AgreesWithCalls : List ℕ → Type 0
   AgreesWithCalls text =
-      (ds : List Decision) (rs : List Rule) → text ≡ stated_by ds rs → length text ≤ 65536 → All ByteSized ds → All BytePaired rs → All IsExact rs
+      (ds : List Decision) (rs : List Rule) → text ≡ stated_by ds rs → length text ≤ 65536 → AllByRecursion ByteSized ds → AllByRecursion BytePaired rs → AllByRecursion IsExact rs
       → loaded m text ≡ unless (opened_from 1 [] ds) (added_from (length ds + 1) (fresh ds) rs)
 
   -- what is written of a planner, whatever was called on it with rules that new and compose make, is loaded as the same decisions and rules in the same order
