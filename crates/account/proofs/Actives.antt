@@ -1,6 +1,6 @@
 -- Active decisions: what a lawful plan makes active, and that a complete trail is lawful.
 use Rattle.std.proofs.Common.{◌≡◌, ℕ, ◌<◌, true, false, ◌||◌, ltb, List, [], ◌∷◌, length, refl, ap, ◌∙◌, inl, inr, ⊎_elim, arith}
-use Rattle.std.specs.List.{ContainsAt as Has, AllByRecursion as All}
+use Rattle.std.specs.List.{ContainsAt as Has, AllByRecursion}
 use Rattle.std.proofs.ByRecursion.{all-has, all_has_itself, All-weaker}
 use Rattle.std.proofs.lemmas.Bool.{cond-true, cond_both, cases_Bool, cases_eq, or_left, or_right, ltb-true, ltb-false, lt-ltb}
 use Rattle.rules.specs.Conditions.{Plan, met}
@@ -62,7 +62,7 @@ grounded_closed b p s closed (e ∷ es) dis gr same x h =
     here older (inr g) = rw g.2 at (closed_target b p s closed g.0 g.1 (chosen es) g.3 (λ y l. (older y l, before y l)))
 
 -- a trail that is grounded, meets no forbid rule and leaves nothing waiting is lawful
-pub complete_lawful : (b : Book) (es : List Entry) → Distinct b.decisions es → Grounded b es → All (λ r. r.target < length b.decisions) b.activates → All (λ r. met (chosen es) r ≡ false) b.forbids → ((d : ℕ) → d < length b.decisions → waits b (chosen es) d ≡ false) → Lawful b (chosen es)
+pub complete_lawful : (b : Book) (es : List Entry) → Distinct b.decisions es → Grounded b es → AllByRecursion (λ r. r.target < length b.decisions) b.activates → AllByRecursion (λ r. met (chosen es) r ≡ false) b.forbids → ((d : ℕ) → d < length b.decisions → waits b (chosen es) d ≡ false) → Lawful b (chosen es)
 complete_lawful b es dis gr targets none rest =
     record {
       only_active = λ d h s closed. grounded_closed b (chosen es) s closed es dis gr (λ x l. refl) d h;

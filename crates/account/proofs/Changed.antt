@@ -1,6 +1,6 @@
 -- An accepted change of rules keeps an account sound.
 use Rattle.std.proofs.Common.{◌≡◌, ℕ, zero, suc, ◌<◌, ◌≤◌, Bool, true, false, cond, not, ◌&&◌, List, [], ◌∷◌, ◌++◌, length, take, drop, Some, None, Option, sym, refl, ap, ◌∙◌, ⊎_elim, arith}
-use Rattle.std.specs.List.{remove, AllByRecursion as All}
+use Rattle.std.specs.List.{remove, AllByRecursion}
 use Rattle.std.proofs.ByRecursion.{All-weaker, All-append, All-take, All-drop}
 use Rattle.std.proofs.lemmas.Bool.{and_parts, cases_eq, both_ways, not-true}
 use Rattle.measure.specs.Meaning.{Meaning}
@@ -44,7 +44,7 @@ abbrev pub ruled : Book → List Row → List Row → List Row → Book
 ruled b fs ts ps = record { decisions = b.decisions; forbids = fs; activates = ts; prices = ps }
 
 -- what is lawful does not change with the prices, and with the forbid rules only as they are met
-pub relawful : (b : Book) (fs ps : List Row) (p : Plan) → Lawful b p → All (λ r. met p r ≡ false) fs → Lawful (ruled b fs b.activates ps) p
+pub relawful : (b : Book) (fs ps : List Row) (p : Plan) → Lawful b p → AllByRecursion (λ r. met p r ≡ false) fs → Lawful (ruled b fs b.activates ps) p
 relawful b fs ps p law none =
     record {
       only_active = λ d h s closed. law.only_active d h s (record { marked = closed.marked; enabled = closed.enabled });
@@ -53,7 +53,7 @@ relawful b fs ps p law none =
       unforbidden = none;
     }
 
-pub unlawful : (b : Book) (fs ps : List Row) (p : Plan) → Lawful (ruled b fs b.activates ps) p → All (λ r. met p r ≡ false) b.forbids → Lawful b p
+pub unlawful : (b : Book) (fs ps : List Row) (p : Plan) → Lawful (ruled b fs b.activates ps) p → AllByRecursion (λ r. met p r ≡ false) b.forbids → Lawful b p
 unlawful b fs ps p law none =
     record {
       only_active = λ d h s closed. law.only_active d h s (record { marked = closed.marked; enabled = closed.enabled });
@@ -69,11 +69,11 @@ lawful_idle b p law d h = ⊎_elim (λ z. z) (λ (ne : p d ≡ 0 → ⊥). absur
     past : (p d ≡ 0 → ⊥) → ⊥
     past ne = omega (arith, size_known b.decisions d (omega (arith, law.in_range d)))
 
-pub all_left : {X : Type 0} (P : X → Type 0) (xs ys : List X) → All P (xs ++ ys) → All P xs
+pub all_left : {X : Type 0} (P : X → Type 0) (xs ys : List X) → AllByRecursion P (xs ++ ys) → AllByRecursion P xs
 all_left P [] ys h = tt
 all_left P (x ∷ xs) ys h = (h.0, all_left P xs ys h.1)
 
-pub all_removed : {X : Type 0} (P : X → Type 0) (xs : List X) (k : ℕ) → All P xs → All P (remove xs k)
+pub all_removed : {X : Type 0} (P : X → Type 0) (xs : List X) (k : ℕ) → AllByRecursion P xs → AllByRecursion P (remove xs k)
 all_removed P xs k h = All-append P (take k xs) (drop (suc k) xs) (All-take P k xs h) (All-drop P (suc k) xs h)
 
 -- a change of rules, where what is kept still holds
@@ -140,7 +140,7 @@ module _ {C : Type 0} (m : Meaning C) (laws : Laws m) (a : Account C) (s : Sound
   gone h = absurd (both_ways false refl h)
 
   -- the best, if it is lawful by a book with other activate rules
-  module _ (ts : List Row) (targets : All (λ r. r.target < length a.book.decisions) ts) where
+  module _ (ts : List Row) (targets : AllByRecursion (λ r. r.target < length a.book.decisions) ts) where
     activates_sound : Sound m (reopened a (ruled a.book a.book.forbids ts a.book.prices) (if_lawful (ruled a.book a.book.forbids ts a.book.prices) a.best) (λ e. false))
     activates_sound =
         reopened_sound m a s a.book.forbids ts a.book.prices (record { some_pair = s.known.some_pair; known_targets = targets })

@@ -1,6 +1,6 @@
 -- What each part of a step finds, by its outcome.
 use Rattle.std.proofs.Common.{◌≡◌, ℕ, zero, suc, ◌<◌, ◌≤◌, Bool, true, false, cond, not, ◌&&◌, ◌||◌, eqb, ltb, ◌⊎◌, List, [], ◌∷◌, Some, None, Option, sym, refl, ⊎_elim, arith}
-use Rattle.std.specs.List.{ContainsAt as Has, AllByRecursion as All}
+use Rattle.std.specs.List.{ContainsAt as Has, AllByRecursion}
 use Rattle.std.proofs.lemmas.Bool.{cond_both, cases_eq, and_parts, and_cases, or_cases, or_left, or_right, both_ways, eqb-true, eq-eqb, not-true, not-false, ltb-false, ltb-true}
 use Rattle.rules.specs.Conditions.{Plan, names, condition, met}
 use Rattle.rules.specs.Plans.{Book, Set, enables, on_at}
@@ -86,7 +86,7 @@ support_chosen b p d x =
 
 -- the first met row: none is, or one that is, and that no plan with none met meets
 abbrev pub First : List Row → Plan → Option Row → Type 0
-First rs p None = All (λ r. met p r ≡ false) rs
+First rs p None = AllByRecursion (λ r. met p r ≡ false) rs
 First rs p (Some r) = (met p r ≡ true) × Has rs r
 
 pub first_met_lem : (rs : List Row) (p : Plan) → First rs p (first_met rs p)

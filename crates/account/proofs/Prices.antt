@@ -1,6 +1,6 @@
 -- All that the search uses of costs: a plan that meets the kept price rules still reaches the best, and what more rules do to a cost.
 use Rattle.std.proofs.Common.{◌≡◌, ℕ, ◌<◌, Bool, true, false, cond, List, [], ◌∷◌, ◌++◌, sym, refl, ◌∙◌, ⊎_elim}
-use Rattle.std.specs.List.{AllByRecursion as All}
+use Rattle.std.specs.List.{AllByRecursion}
 use Rattle.std.proofs.lemmas.Bool.{cond_both, or_cases, or_left, or_right, both_ways}
 use Rattle.measure.specs.Meaning.{Meaning}
 use Rattle.measure.proofs.Laws.{Laws}
@@ -27,33 +27,33 @@ module _ {C : Type 0} (m : Meaning C) (laws : Laws m) where
           (laws.transitive best (m.joins before (cost m rs q)) (m.joins (m.joins before (cost m rs q)) (m.reads r.price)) h (laws.parts (m.joins before (cost m rs q)) (m.reads r.price)).0)
 
   -- a plan that meets what is kept reaches the best, if the plan it is kept from does
-  kept_reaches : (best before : C) (rs : List Row) (p q : Plan) → m.at_most best (m.joins before (cost m rs p)) ≡ true → All (λ r. met q r ≡ true) (kept m best before rs p) → m.at_most best (m.joins before (cost m rs q)) ≡ true
+  kept_reaches : (best before : C) (rs : List Row) (p q : Plan) → m.at_most best (m.joins before (cost m rs p)) ≡ true → AllByRecursion (λ r. met q r ≡ true) (kept m best before rs p) → m.at_most best (m.joins before (cost m rs q)) ≡ true
   unfolding kept
   kept_reaches best before [] p q h all = h
   kept_reaches best before (r ∷ rs) p q h all =
       go (met p r) (m.at_most best (m.joins before (cost m rs p))) refl h all (kept_reaches best before rs p q) (kept_reaches best (m.joins before (m.reads r.price)) rs p q)
     where
-      go : (t u : Bool) → m.at_most best (m.joins before (cost m rs p)) ≡ u → m.at_most best (m.joins before (cond t (m.joins (m.reads r.price) (cost m rs p)) (cost m rs p))) ≡ true → All (λ s. met q s ≡ true) (cond t (cond u (kept m best before rs p) (r ∷ kept m best (m.joins before (m.reads r.price)) rs p)) (kept m best before rs p)) → (m.at_most best (m.joins before (cost m rs p)) ≡ true → All (λ s. met q s ≡ true) (kept m best before rs p) → m.at_most best (m.joins before (cost m rs q)) ≡ true) → (m.at_most best (m.joins (m.joins before (m.reads r.price)) (cost m rs p)) ≡ true → All (λ s. met q s ≡ true) (kept m best (m.joins before (m.reads r.price)) rs p) → m.at_most best (m.joins (m.joins before (m.reads r.price)) (cost m rs q)) ≡ true) → m.at_most best (m.joins before (cost m (r ∷ rs) q)) ≡ true
+      go : (t u : Bool) → m.at_most best (m.joins before (cost m rs p)) ≡ u → m.at_most best (m.joins before (cond t (m.joins (m.reads r.price) (cost m rs p)) (cost m rs p))) ≡ true → AllByRecursion (λ s. met q s ≡ true) (cond t (cond u (kept m best before rs p) (r ∷ kept m best (m.joins before (m.reads r.price)) rs p)) (kept m best before rs p)) → (m.at_most best (m.joins before (cost m rs p)) ≡ true → AllByRecursion (λ s. met q s ≡ true) (kept m best before rs p) → m.at_most best (m.joins before (cost m rs q)) ≡ true) → (m.at_most best (m.joins (m.joins before (m.reads r.price)) (cost m rs p)) ≡ true → AllByRecursion (λ s. met q s ≡ true) (kept m best (m.joins before (m.reads r.price)) rs p) → m.at_most best (m.joins (m.joins before (m.reads r.price)) (cost m rs q)) ≡ true) → m.at_most best (m.joins before (cost m (r ∷ rs) q)) ≡ true
       go true true e h all rest taken = more best before r rs q (rest e all)
       go true false e h all rest taken = rw (all.0, ← laws.associative before (m.reads r.price) (cost m rs q)) (taken (rw (laws.associative before (m.reads r.price) (cost m rs p)) h) all.1)
       go false u e h all rest taken = more best before r rs q (rest h all)
 
   -- what is kept is met
-  kept_met : (best before : C) (rs : List Row) (p : Plan) → All (λ r. met p r ≡ true) (kept m best before rs p)
+  kept_met : (best before : C) (rs : List Row) (p : Plan) → AllByRecursion (λ r. met p r ≡ true) (kept m best before rs p)
   unfolding kept
   kept_met best before [] p = tt
   kept_met best before (r ∷ rs) p =
-      cond_both (met p r) (cond (reaches m best (m.joins before (cost m rs p))) (kept m best before rs p) (r ∷ kept m best (m.joins before (m.reads r.price)) rs p)) (kept m best before rs p) (All (λ r. met p r ≡ true))
-      (λ e. cond_both (reaches m best (m.joins before (cost m rs p))) (kept m best before rs p) (r ∷ kept m best (m.joins before (m.reads r.price)) rs p) (All (λ r. met p r ≡ true))
+      cond_both (met p r) (cond (reaches m best (m.joins before (cost m rs p))) (kept m best before rs p) (r ∷ kept m best (m.joins before (m.reads r.price)) rs p)) (kept m best before rs p) (AllByRecursion (λ r. met p r ≡ true))
+      (λ e. cond_both (reaches m best (m.joins before (cost m rs p))) (kept m best before rs p) (r ∷ kept m best (m.joins before (m.reads r.price)) rs p) (AllByRecursion (λ r. met p r ≡ true))
       (λ f. kept_met best before rs p) (λ f. (e, kept_met best (m.joins before (m.reads r.price)) rs p)))
       (λ e. kept_met best before rs p)
 
-  named_same : (rs : List Row) (p q : Plan) → ((x : ℕ) → named_in rs x ≡ true → q x ≡ p x) → All (λ r. met p r ≡ true) rs → All (λ r. met q r ≡ true) rs
+  named_same : (rs : List Row) (p q : Plan) → ((x : ℕ) → named_in rs x ≡ true → q x ≡ p x) → AllByRecursion (λ r. met p r ≡ true) rs → AllByRecursion (λ r. met q r ≡ true) rs
   named_same [] p q same all = tt
   named_same (r ∷ rs) p q same all =
       (met_same r p q (λ x n. same x (or_left (names (condition r) x) (named_in rs x) n)) all.0, named_same rs p q (λ x n. same x (or_right (names (condition r) x) (named_in rs x) n)) all.1)
 
-  named_chosen : (rs : List Row) (p : Plan) → All (λ r. met p r ≡ true) rs → (x : ℕ) → named_in rs x ≡ true → 0 < p x
+  named_chosen : (rs : List Row) (p : Plan) → AllByRecursion (λ r. met p r ≡ true) rs → (x : ℕ) → named_in rs x ≡ true → 0 < p x
   named_chosen [] p all x n = absurd (both_ways false refl n)
   named_chosen (r ∷ rs) p all x n = ⊎_elim (λ h. met_chosen r p all.0 x h) (λ h. named_chosen rs p all.1 x h) (or_cases (names (condition r) x) (named_in rs x) n)
 

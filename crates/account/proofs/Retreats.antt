@@ -1,6 +1,6 @@
 -- What a retreat takes from a trail, and that it raises the number.
 use Rattle.std.proofs.Common.{◌≡◌, ℕ, ◌<◌, ◌≤◌, Bool, true, false, not, ◌&&◌, eqb, List, [], ◌∷◌, ◌++◌, length, Some, None, Option, refl, ap, ◌∙◌, ⊎_elim, arith}
-use Rattle.std.specs.List.{AllByRecursion as All}
+use Rattle.std.specs.List.{AllByRecursion}
 use Rattle.std.proofs.lemmas.Bool.{cases_Bool, cases_lt, both_ways, cond_both, eqb-true, eq-eqb, cond-true, cond-false, and_parts, and_from, not-true, or_from}
 use Rattle.rules.specs.Plans.{Set, size_at}
 use Rattle.rules.specs.declared.decision.Decision.{Decision}
@@ -25,7 +25,7 @@ module _ (ds : List Decision) (s : Set) where
     culprit_blamed : s r.culprit.decision ≡ true
     latest : (x : ℕ) → s x ≡ true → chosen es x ≡ chosen (r.culprit ∷ older) x
     below : (x : ℕ) → 0 < chosen older x → 0 < chosen es x
-    gone : All (λ x. (x < length ds) × (chosen older x ≡ 0)) r.left
+    gone : AllByRecursion (λ x. (x < length ds) × (chosen older x ≡ 0)) r.left
 
   abbrev Outcome : List Entry → Option Retreat → Type 0
   Outcome es None = Unit {0}
@@ -120,7 +120,7 @@ module _ (ds : List Decision) (s : Set) where
     was_free : ex r.culprit.decision r.culprit.value ≡ None
     was_free = rw culprit_chosen at (free r.culprit.decision (rw culprit_chosen p.culprit_low))
 
-    none_left : (t : Set) → lies (length ds) p.older t ≡ true → (left : List ℕ) → All (λ x. (x < length ds) × (chosen p.older x ≡ 0)) left → has_any t left ≡ false
+    none_left : (t : Set) → lies (length ds) p.older t ≡ true → (left : List ℕ) → AllByRecursion (λ x. (x < length ds) × (chosen p.older x ≡ 0)) left → has_any t left ≡ false
     none_left t k [] g = refl
     none_left t k (x ∷ xs) g =
         or_from (t x) (has_any t xs)

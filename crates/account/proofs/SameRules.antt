@@ -1,6 +1,6 @@
 -- Two books with the same rules, each equally often, have the same lawful plans at the same costs, and two settled accounts over them report one cost.
 use Rattle.std.proofs.Common.{◌≡◌, ℕ, ◌+◌, ◌<◌, ◌≤◌, Bool, true, false, cond, ◌&&◌, eqb, List, [], ◌∷◌, length, Some, None, count_by, Option, sym, refl, ap, ◌∙◌, subst, ⊎_elim, arith}
-use Rattle.std.specs.List.{AllByRecursion as All}
+use Rattle.std.specs.List.{AllByRecursion}
 use Rattle.std.proofs.lemmas.List.Sums.{sum_by-cons}
 use Rattle.std.proofs.lemmas.Bool.{cases_Bool, false≢true, cond-true, cond-false, eqb-true, eq-eqb, and_parts, and_from}
 use Rattle.measure.specs.Meaning.{Meaning}
@@ -13,7 +13,6 @@ use Rattle.rules.specs.declared.literal.Literal.{Literal}
 use Rattle.rules.specs.declared.row.Kind.TheVariants.{Forbid, Activate, Price as Priced}
 use Rattle.rules.specs.declared.row.Row.{Row}
 use Rattle.account.specs.Accounts.{Account, Best}
-use Rattle.account.specs.Calls.{best}
 use Rattle.account.specs.Law.{same_pairs, same_rule, SameRules, OneCost}
 use Rattle.account.specs.declared.state.State.TheVariants.{Settled}
 use Rattle.account.proofs.Reports.{Told, told, least, none}
@@ -127,12 +126,12 @@ rearrange (r ∷ xs) ys h =
     let t = ap {B = ℕ} (λ (b : Bool). cond b 1 0) (test_alike q r f.rule f.alike) in
     omega (arith, h q, counts_cons (same_rule q) r xs, counts_without (same_rule q) f.without)))
 
-all_put_back : (P : Row → Type 0) {s : Row} {ys rest : List Row} → Without s ys rest → P s → All P rest → All P ys
+all_put_back : (P : Row → Type 0) {s : Row} {ys rest : List Row} → Without s ys rest → P s → AllByRecursion P rest → AllByRecursion P ys
 all_put_back P here p h = (p, h)
 all_put_back P (there w) p h = (h.0, all_put_back P w p h.1)
 
 -- what holds of each rule, whatever rule like it stands there, holds of each rule of the other list
-all_rearranged : (P : Row → Type 0) → ((r s : Row) → Alike r s → P r → P s) → {xs ys : List Row} → Rearranged xs ys → All P xs → All P ys
+all_rearranged : (P : Row → Type 0) → ((r s : Row) → Alike r s → P r → P s) → {xs ys : List Row} → Rearranged xs ys → AllByRecursion P xs → AllByRecursion P ys
 all_rearranged P kept empty h = tt
 all_rearranged P kept (more {r} {s} a w o) h = all_put_back P w (kept r s a h.0) (all_rearranged P kept o h.1)
 

@@ -1,6 +1,6 @@
 -- What holds of every account reached by calls, and that a blame keeps it.
 use Rattle.std.proofs.Common.{◌≡◌, ℕ, ◌<◌, ◌≤◌, Bool, true, false, List, length, Some, None, Option, sym, ap, ◌∙◌, ⊎_elim, arith}
-use Rattle.std.specs.List.{AllByRecursion as All}
+use Rattle.std.specs.List.{AllByRecursion}
 use Rattle.std.proofs.ByRecursion.{All-weaker}
 use Rattle.std.proofs.lemmas.Bool.{cases_Bool, cases_eq, both_ways}
 use Rattle.measure.specs.Meaning.{Meaning}
@@ -29,8 +29,8 @@ Beaten m b (Some best) p = m.at_most best.cost (cost m b.prices p) ≡ true
 
 -- rules as accepted calls leave them: a forbid rule has a pair, the target of an activate rule is a decision
 pub record Known (b : Book) : Type 0 where
-  pub some_pair : All (λ r. 1 ≤ length (condition r)) b.forbids
-  pub known_targets : All (λ r. r.target < length b.decisions) b.activates
+  pub some_pair : AllByRecursion (λ r. 1 ≤ length (condition r)) b.forbids
+  pub known_targets : AllByRecursion (λ r. r.target < length b.decisions) b.activates
 
 pub record Sound {C : Type 0} (m : Meaning C) (a : Account C) : Type 0 where
   pub formed : Formed a
@@ -38,7 +38,7 @@ pub record Sound {C : Type 0} (m : Meaning C) (a : Account C) : Type 0 where
   -- every entry is grounded in the older ones
   pub grounded : Grounded a.book a.trail
   -- the trail meets no forbid rule
-  pub unforbidden : All (λ r. met (chosen a.trail) r ≡ false) a.book.forbids
+  pub unforbidden : AllByRecursion (λ r. met (chosen a.trail) r ≡ false) a.book.forbids
   -- a lawful plan with an excluded value and the trail's values for the reason is ruled out
   pub barred : (d v : ℕ) (e : Exclusion) → a.exclusions d v ≡ Some e → (p : Plan) → Lawful a.book p → p d ≡ v → Agrees p (chosen a.trail) e.reason → RulesOut m a e.rests p
   -- what rests on the best has one
@@ -52,7 +52,7 @@ ruled_beaten m a false p h = absurd h
 ruled_beaten m a true p h = rw h.1 h.2
 
 -- a retreat leaves a trail that meets no more
-pub fewer_met : (b : Book) (s : Set) (es : List Entry) (r : Retreat) → Left b s es r → (rs : List Row) → All (λ w. met (chosen es) w ≡ false) rs → All (λ w. met (chosen r.stays) w ≡ false) rs
+pub fewer_met : (b : Book) (s : Set) (es : List Entry) (r : Retreat) → Left b s es r → (rs : List Row) → AllByRecursion (λ w. met (chosen es) w ≡ false) rs → AllByRecursion (λ w. met (chosen r.stays) w ≡ false) rs
 fewer_met b s es r l rs all = All-weaker (λ w. met (chosen es) w ≡ false) (λ w. met (chosen r.stays) w ≡ false) one rs all
   where
     same : (x : ℕ) → 0 < chosen r.stays x → chosen es x ≡ chosen r.stays x

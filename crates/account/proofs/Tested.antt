@@ -1,6 +1,6 @@
 -- What the test of a value finds, and what the exclusions say after it.
 use Rattle.std.proofs.Common.{◌≡◌, ℕ, ◌<◌, ◌≤◌, Bool, true, false, cond, not, ◌&&◌, eqb, leb, ◌⊎◌, Some, None, Option, sym, refl, inl, inr, ⊎_elim, arith}
-use Rattle.std.specs.List.{ContainsAt as Has, AllByRecursion as All}
+use Rattle.std.specs.List.{ContainsAt as Has, AllByRecursion}
 use Rattle.std.proofs.ByRecursion.{all-has}
 use Rattle.std.proofs.lemmas.Bool.{cases_eq, and_parts, and_from, both_ways, eqb-true, eqb-false, eq-eqb, ne_eqb, not-true, not_from_false, leb-true, le-leb}
 use Rattle.measure.specs.Meaning.{Meaning}
@@ -50,10 +50,10 @@ module _ {C : Type 0} (m : Meaning C) (a : Account C) (d : ℕ) (p : Plan) where
 
   -- what a test finds
   abbrev pub Given : Option Exclusion → Type 0
-  Given None = All (λ r. met p r ≡ false) a.book.forbids
+  Given None = AllByRecursion (λ r. met p r ≡ false) a.book.forbids
   Given (Some e) = ByForbid e ⊎ ByPrice e
 
-  by_price_lem : All (λ r. met p r ≡ false) a.book.forbids → (o : Option (Best C)) → a.best ≡ o → Given (by_price m a.book d p o)
+  by_price_lem : AllByRecursion (λ r. met p r ≡ false) a.book.forbids → (o : Option (Best C)) → a.best ≡ o → Given (by_price m a.book d p o)
   by_price_lem none None q = none
   by_price_lem none (Some b) q = go (m.at_most b.cost (cost m a.book.prices p)) refl
     where
@@ -121,11 +121,11 @@ module _ {C : Type 0} (m : Meaning C) (a : Account C) (d : ℕ) where
           })
 
   -- what has no exclusion after the test had none before, and at a value of d no forbid rule is met
-  pub tested_none : (v : ℕ) → 1 ≤ v → v ≤ size_at a.book.decisions d → tested m a d d v ≡ None → (a.exclusions d v ≡ None) × All (λ r. met (choose (chosen a.trail) d v) r ≡ false) a.book.forbids
+  pub tested_none : (v : ℕ) → 1 ≤ v → v ≤ size_at a.book.decisions d → tested m a d d v ≡ None → (a.exclusions d v ≡ None) × AllByRecursion (λ r. met (choose (chosen a.trail) d v) r ≡ false) a.book.forbids
   unfolding tested
   tested_none v l u h = go (a.exclusions d v) (rw (eq-eqb d d refl, le-leb 1 v l, le-leb v (size_at a.book.decisions d) u) at h)
     where
-      go : (o : Option Exclusion) → tested_at m a d v true o ≡ None → (o ≡ None) × All (λ r. met (choose (chosen a.trail) d v) r ≡ false) a.book.forbids
+      go : (o : Option Exclusion) → tested_at m a d v true o ≡ None → (o ≡ None) × AllByRecursion (λ r. met (choose (chosen a.trail) d v) r ≡ false) a.book.forbids
       go None g = (refl, rw g at (given m a d (choose (chosen a.trail) d v)))
       go (Some e) g = absurd (none_some e (sym g))
 

@@ -1,6 +1,6 @@
 -- The planning law, over any two lists of calls from an opening.
 use Rattle.std.specs.Prelude.{◌≡◌, ℕ, ◌+◌, ◌^◌, ◌<◌, ◌≤◌, Bool, true, false, ◌&&◌, ◌↔◌, List, [], ◌∷◌, length, Some, None, sum_by, count_by, Option, ◌==◌}
-use Rattle.std.specs.List.{AllByRecursion as All}
+use Rattle.std.specs.List.{AllByRecursion}
 use Rattle.measure.specs.Meaning.{Meaning}
 use Rattle.rules.specs.Conditions.{Plan, plan_of, condition}
 use Rattle.rules.specs.Judging.{open_refusal}
@@ -66,4 +66,4 @@ module _ {C : Type 0} (m : Meaning C) where
 -- the test of lawfulness that a change of rules makes tells lawful plans from the others, where targets are known and nothing past the decisions is chosen
 abbrev pub LawfulIsTested : Type 0
 LawfulIsTested =
-    (b : Book) (p : Plan) → All (λ r. r.target < length b.decisions) b.activates → ((d : ℕ) → length b.decisions ≤ d → p d ≡ 0) → (is_lawful b p ≡ true) ↔ Lawful b p
+    (b : Book) (p : Plan) → AllByRecursion (λ r. r.target < length b.decisions) b.activates → ((d : ℕ) → length b.decisions ≤ d → p d ≡ 0) → (is_lawful b p ≡ true) ↔ Lawful b p

@@ -1,7 +1,7 @@
 -- Fields and their forms: what is written of a number, a mark or a pair is read as that, and only that is.
 use Rattle.std.proofs.Common.{◌≡◌, ℕ, ◌+◌, ◌%◌, ◌^◌, ◌<◌, ◌≤◌, Bool, true, false, cond, leb, ◌⊎◌, List, [], ◌∷◌, ◌++◌, map, length, take, drop, Some, None, Ok, Err, codes, decimal, Option, Result, sym, refl, ap, ◌∙◌, subst, inl, inr, ⊎_elim, arith, length-append}
 use Rattle.std.specs.Option.{option_map}
-use Rattle.std.specs.List.{AllByRecursion as All}
+use Rattle.std.specs.List.{AllByRecursion}
 use Rattle.std.specs.Str.{bytes_eq}
 use Rattle.std.proofs.lemmas.Fmt.{decimal_by_steps, decimal_nonempty}
 use Rattle.std.proofs.lemmas.Slice.Eq.{bytes_eq-Decides}
@@ -58,7 +58,7 @@ module _ (b : ℕ) (low : b < 48) where
         filled (d ++ 61 ∷ v) (omega (arith, length-append d (61 ∷ v))),
       )
 
-  pub solid_pairs : (ps : List Literal) → fitting_pairs ps ≡ true → All (Solid b) (map pair_text ps)
+  pub solid_pairs : (ps : List Literal) → fitting_pairs ps ≡ true → AllByRecursion (Solid b) (map pair_text ps)
   solid_pairs [] h = tt
   solid_pairs (p ∷ ps) h = let fit = and_parts (fitting_pair p) (fitting_pairs ps) h in (solid_pair p fit.0, solid_pairs ps fit.1)
 

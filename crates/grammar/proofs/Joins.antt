@@ -1,6 +1,6 @@
 -- Texts without a byte, and texts cut at it and joined again.
 use Rattle.std.proofs.Common.{◌≡◌, ℕ, suc, ◌+◌, ◌<◌, true, false, cond, eqb, List, [], ◌∷◌, ◌++◌, length, take, drop, sym, refl, ap, ◌∙◌, append_assoc, append-nil, add-one, arith, length-append}
-use Rattle.std.specs.List.{AllByRecursion as All}
+use Rattle.std.specs.List.{AllByRecursion}
 use Rattle.std.proofs.lemmas.List.{append_cancel_right, take-append-le, take_all}
 use Rattle.std.proofs.lemmas.Bool.{cond-true, cond-false, eqb-true, eq-eqb, ne_eqb}
 use Rattle.reading.specs.Pieces.{before, longer, pieces}
@@ -42,7 +42,7 @@ module _ (b : ℕ) where
       [ true ↦ λ e. absurd (omega arith) | false ↦ λ e. ap (longer x) (cut_behind xs ys (omega arith)) ]) h
 
   -- closed pieces without b are cut apart again, with nothing behind the last
-  pub cut_closed : (ps : List (List ℕ)) → All (Lacks b) ps → pieces b (closed b ps) ≡ ps ++ [] ∷ []
+  pub cut_closed : (ps : List (List ℕ)) → AllByRecursion (Lacks b) ps → pieces b (closed b ps) ≡ ps ++ [] ∷ []
   unfolding pieces
   cut_closed [] h = refl
   cut_closed (p ∷ ps) h = cut_behind p (closed b ps) h.0 ∙ ap (λ (qs : List (List ℕ)). p ∷ qs) (cut_closed ps h.1)
@@ -94,11 +94,11 @@ spaced_pieces xs =
     append_cancel_right (spaced (pieces 32 xs)) (32 ∷ xs) (32 ∷ [])
     (spaced_closed (pieces 32 xs) ∙ ap (λ (t : List ℕ). 32 ∷ t) (closed_pieces 32 xs))
 
-pub cut_spaced : (f : List ℕ) (fs : List (List ℕ)) → Lacks 32 f → All (Lacks 32) fs → pieces 32 (f ++ spaced fs) ≡ f ∷ fs
+pub cut_spaced : (f : List ℕ) (fs : List (List ℕ)) → Lacks 32 f → AllByRecursion (Lacks 32) fs → pieces 32 (f ++ spaced fs) ≡ f ∷ fs
 cut_spaced f [] h k = ap (pieces 32) (append-nil f) ∙ cut_last 32 f h
 cut_spaced f (g ∷ gs) h k = cut_behind 32 f (g ++ spaced gs) h ∙ ap (λ (qs : List (List ℕ)). f ∷ qs) (cut_spaced g gs k.0 k.1)
 
 -- fields without a byte, a space in front of each
-pub lacks_spaced : (b : ℕ) (fs : List (List ℕ)) → (32 ≡ b → ⊥) → All (Lacks b) fs → Lacks b (spaced fs)
+pub lacks_spaced : (b : ℕ) (fs : List (List ℕ)) → (32 ≡ b → ⊥) → AllByRecursion (Lacks b) fs → Lacks b (spaced fs)
 lacks_spaced b [] ne h = refl
 lacks_spaced b (f ∷ fs) ne h = lacks_more b 32 (f ++ spaced fs) ne (lacks_append b f (spaced fs) h.0 (lacks_spaced b fs ne h.1))

@@ -1,7 +1,7 @@
 -- Lines: the text of a statement is read as it, and only that is.
 use Rattle.std.proofs.Common.{◌≡◌, ℕ, ◌+◌, ◌<◌, ◌≤◌, Bool, true, false, cond, not, ◌&&◌, ◌||◌, eqb, ltb, leb, List, [], ◌∷◌, ◌++◌, map, length, drop, Some, None, Ok, decimal, Option, Result, sym, refl, ap, ◌∙◌, subst, ⊎_elim, arith, length-append}
 use Rattle.std.specs.Option.{option_map}
-use Rattle.std.specs.List.{AllByRecursion as All}
+use Rattle.std.specs.List.{AllByRecursion}
 use Rattle.std.proofs.ByRecursion.{All-append, All-weaker}
 use Rattle.std.proofs.lemmas.List.{length-map}
 use Rattle.std.proofs.lemmas.Bool.{and_from, and_parts, cases_Bool, cond-false, cond-true, eqb-true, leb-true, ltb-false, le-ltb, not_from_true, not-false, or_from, or_parts, true≢false}
@@ -94,7 +94,7 @@ pub line_kind : (k : LineKind) (fs : List (List ℕ)) → 1 ≤ length fs → ki
 line_kind k [] h = absurd (omega arith)
 line_kind k (f ∷ fs) h = kind_read k
 
-pub line_cut : (b : ℕ) (fs : List (List ℕ)) → 1 ≤ length fs → All (Lacks 32) fs → fields_of (b ∷ spaced fs) ≡ fs
+pub line_cut : (b : ℕ) (fs : List (List ℕ)) → 1 ≤ length fs → AllByRecursion (Lacks 32) fs → fields_of (b ∷ spaced fs) ≡ fs
 line_cut b [] h lacks = absurd (omega arith)
 line_cut b (f ∷ fs) h lacks = left_within 32 (b ∷ 32 ∷ (f ++ spaced fs)) 2 (omega arith) ∙ cut_spaced f fs lacks.0 lacks.1
 
@@ -269,14 +269,14 @@ fields_read (rules Priced ps target price) h n =
     (ruled_read n Priced ps 0 price fit.0 ∙ ap (λ (t : ℕ). Ok (rules Priced ps t price)) (sym (eqb-true target 0 head.0)))
 
 -- every field is there, and none of them is empty
-solid_head : (b : ℕ) → b < 48 → (k : Kind) (target : ℕ) (price : Price) → fitting_head k target price ≡ true → All (Solid b) (head_fields k target price)
+solid_head : (b : ℕ) → b < 48 → (k : Kind) (target : ℕ) (price : Price) → fitting_head k target price ≡ true → AllByRecursion (Solid b) (head_fields k target price)
 solid_head b low Forbid target price h = tt
 solid_head b low Activate target price h = (solid_decimal b low 255 target (omega arith) (and_parts (leb target 255) _ h).0, tt)
 solid_head b low Priced target price h =
     let fit = and_parts (leb price.tier 255) (leb price.cents 4294967295) (and_parts (eqb target 0) _ h).1 in
     (solid_decimal b low 255 price.tier (omega arith) fit.0, (solid_decimal b low 4294967295 price.cents (omega arith) fit.1, tt))
 
-pub solid_fields : (b : ℕ) → b < 48 → (s : Stated) → fitting s ≡ true → All (Solid b) (stated_fields s)
+pub solid_fields : (b : ℕ) → b < 48 → (s : Stated) → fitting s ≡ true → AllByRecursion (Solid b) (stated_fields s)
 solid_fields b low (decides d) h = (solid_decimal b low 255 d.size (omega arith) h, (solid_mark b low d.on, tt))
 solid_fields b low (rules k ps target price) h =
     let fit = and_parts (fitting_pairs ps) (fitting_head k target price) (and_parts (leb 1 (length ps) && leb (length ps) 4) _ h).1 in
@@ -299,14 +299,14 @@ any_field Forbid n = refl
 any_field Activate n = refl
 any_field Priced n = refl
 
-rule_faultless : (k : Kind) (n c : ℕ) (fs : List (List ℕ)) → All (λ f. is_nil f ≡ false) fs → first_bad (rule_kind k) n c fs ≡ None
+rule_faultless : (k : Kind) (n c : ℕ) (fs : List (List ℕ)) → AllByRecursion (λ f. is_nil f ≡ false) fs → first_bad (rule_kind k) n c fs ≡ None
 unfolding first_bad
 rule_faultless k n c [] h = refl
 rule_faultless k n c (f ∷ fs) h =
     cond-false (is_nil f || not (takes_field (rule_kind k) n)) (Some c) _ (or_from _ _ h.0 (not_from_true _ (any_field k n)))
     ∙ rule_faultless k (n + 1) (c + length f + 1) fs h.1
 
-faultless : (s : Stated) → All (λ f. is_nil f ≡ false) (stated_fields s) → first_bad (stated_kind s) 0 3 (stated_fields s) ≡ None
+faultless : (s : Stated) → AllByRecursion (λ f. is_nil f ≡ false) (stated_fields s) → first_bad (stated_kind s) 0 3 (stated_fields s) ≡ None
 unfolding first_bad
 faultless (decides d) h =
     cond-false (is_nil (decimal d.size) || false) (Some 3) _ (or_from _ _ h.0 refl)
@@ -315,7 +315,7 @@ faultless (rules k ps target price) h = rule_faultless k 0 3 (head_fields k targ
 
 -- so the whole line is read
 module _ (s : Stated) (h : fitting s ≡ true) where
-  solid_line : All (Solid 32) (stated_fields s)
+  solid_line : AllByRecursion (Solid 32) (stated_fields s)
   solid_line = solid_fields 32 (omega arith) s h
 
   pub fields_of_text : fields_of (line_text s) ≡ stated_fields s

@@ -1,6 +1,6 @@
 -- Whole texts: a text is its lines, and the lines of statements are cut apart again.
 use Rattle.std.proofs.Common.{◌≡◌, ℕ, ◌+◌, ◌≤◌, Bool, true, false, not, ◌&&◌, List, [], ◌∷◌, ◌++◌, map, sym, refl, ap, ◌∙◌, subst, append_assoc, arith}
-use Rattle.std.specs.List.{AllByRecursion as All}
+use Rattle.std.specs.List.{AllByRecursion}
 use Rattle.std.proofs.ByRecursion.{All-weaker}
 use Rattle.std.proofs.lemmas.List.{append_cancel_right}
 use Rattle.std.proofs.lemmas.Bool.{and_parts, and_right, cond-false, false≢true, true≢false}
@@ -31,7 +31,7 @@ line_lacks s h =
     (lacks_more 10 (byte_of (stated_kind s)) (spaced (stated_fields s)) (λ (e : byte_of (stated_kind s) ≡ 10). omega (arith, high_byte (stated_kind s)))
     (lacks_spaced 10 (stated_fields s) (λ e. omega arith) lack))
 
-pub lines_lack : (ss : List Stated) → all_fitting ss ≡ true → All (Lacks 10) (map line_text ss)
+pub lines_lack : (ss : List Stated) → all_fitting ss ≡ true → AllByRecursion (Lacks 10) (map line_text ss)
 lines_lack [] h = tt
 lines_lack (s ∷ ss) h = let fit = and_parts (fitting s) (all_fitting ss) h in (line_lacks s fit.0, lines_lack ss fit.1)
 
@@ -54,7 +54,7 @@ numbered_ended n (l ∷ ls) =
     numbered_more n l (ls ++ [] ∷ []) (not_last ls)
     ∙ ap (λ (ts : List TextLine). record { bytes = l; number = n; ended = true } ∷ ts) (numbered_ended (n + 1) ls)
 
-pub lines_from : (n : ℕ) (ls : List (List ℕ)) → All (Lacks 10) ls → numbered n (pieces 10 (ended ls)) ≡ ended_lines n ls
+pub lines_from : (n : ℕ) (ls : List (List ℕ)) → AllByRecursion (Lacks 10) ls → numbered n (pieces 10 (ended ls)) ≡ ended_lines n ls
 lines_from n ls h = ap (λ (t : List ℕ). numbered n (pieces 10 t)) (ended_closed ls) ∙ ap (numbered n) (cut_closed 10 ls h) ∙ numbered_ended n ls
 
 pub lines_of_text : LinesOfText

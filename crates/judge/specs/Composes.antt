@@ -1,5 +1,5 @@
 -- What is said of a row that is made of a rule's parts.
-use Rattle.std.specs.Prelude.{◌≡◌, ℕ, List, Some, None, Ok, Err, Result}
+use Rattle.std.specs.Prelude.{◌≡◌, ℕ, List, Some, Ok, Err, Result}
 use Rattle.measure.specs.declared.price.Price.{Price}
 use Rattle.rules.specs.Compose.{compose_refusal, composed}
 use Rattle.rules.specs.declared.literal.Literal.{Literal}

@@ -42,7 +42,8 @@ impl Measure for Cents {
     }
 
     fn join(self, other: Cents) -> Cents
-        ensures { (result ≡ cents.joins self other) × (result.sum ≡ min (self.sum + other.sum) (2 ^ 64 - 1)) }
+        ensures meaning { result ≡ cents.joins self other }
+        ensures sum { result.sum ≡ min (self.sum + other.sum) (2 ^ 64 - 1) }
     {
         Cents {
             sum: self.sum.saturating_add(other.sum),

@@ -2,7 +2,7 @@
 use Rattle.std.proofs.Common.{◌≡◌, ℕ, zero, suc, ◌<◌, ◌≤◌, Bool, true, false, cond, not, ◌&&◌, ◌||◌, eqb, ltb, List, [], ◌∷◌, length, Some, None, Option, sym, refl, ap, ◌∙◌, subst, ap₂, arith}
 use mathlib.Core.Path.{fun_ext}
 use Rattle.std.proofs.lemmas.Bool.{and_parts, ltb-false, not-true}
-use Rattle.std.specs.List.{AllByRecursion as All}
+use Rattle.std.specs.List.{AllByRecursion}
 use Rattle.account.proofs.Finds.{Picked, picked}
 use Rattle.account.specs.Accounts.{Account, Entry, Exclusion, Best, chosen, either, has_any}
 use Rattle.account.specs.Steps.{Retreat, any_rests, blame, blamed, champion, choose, conclude, enter, extend, follow, is_free, is_value, pick, price_reason, reasons, relearn, retreat, smallest_free, step, step_at, support, test, tested, tested_at, unless_left, waits, with_exclusions}
@@ -48,14 +48,14 @@ culprit_in_range s (e ∷ es) r p h = go (s e.decision) h (culprit_in_range s es
         subst (λ (y : Entry). InRange y) (sym same) (later q parts.1 e')
 
 -- what a set of bits forgets is what the list of decisions does
-forget_left : (t : Set) (ds : List ℕ) → t ≡ (λ (x : ℕ). in_list x ds) → All (λ (d : ℕ). d < 64) ds → (o : Option Exclusion) → unless_meets t o ≡ unless_left ds o
+forget_left : (t : Set) (ds : List ℕ) → t ≡ (λ (x : ℕ). in_list x ds) → AllByRecursion (λ (d : ℕ). d < 64) ds → (o : Option Exclusion) → unless_meets t o ≡ unless_left ds o
 forget_left t ds e low None = refl
 forget_left t ds e low (Some x) = ap (λ (b : Bool). cond b None (Some x)) (meets_any x.reason t ds e low)
 
 module _ {C : Type 0} (a : Account C) (s : Set) (rests : Bool) where
   -- an account that a retreat leaves
   pub retreated : (es : List Entry) (c : Entry) (left : List ℕ) (gone rest : Set) (forgot ex : ℕ → ℕ → Option Exclusion) → retreat s a.trail ≡ Some (record { culprit = c; left = left; stays = es })
-      → gone ≡ (λ (x : ℕ). in_list x left) → All (λ (d : ℕ). d < 64) left → rest ≡ (λ (x : ℕ). s x && not (eqb x c.decision))
+      → gone ≡ (λ (x : ℕ). in_list x left) → AllByRecursion (λ (d : ℕ). d < 64) left → rest ≡ (λ (x : ℕ). s x && not (eqb x c.decision))
       → forgot ≡ (λ d v. unless_meets gone (a.exclusions d v))
       → ex ≡ (λ x w. cond (eqb x c.decision && eqb w c.value) (Some (record { reason = rest; rests = rests })) (forgot x w))
       → record { book = a.book; ranks = a.ranks; trail = es; exclusions = ex; best = a.best; state = a.state } ≡ blame a s rests

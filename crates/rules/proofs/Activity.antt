@@ -4,7 +4,7 @@ use mathlib.Core.Path.{fun_ext}
 use lib.ListN.{get_or-eq_default}
 use Rattle.std.proofs.lemmas.Bool.{and_parts, and_from, or_cases, or_left, or_right, eqb-true, eq-eqb, cases_eq, cases_lt, false≢true, both_ways}
 use Rattle.std.proofs.ByRecursion.{All-weaker}
-use Rattle.std.specs.List.{AllByRecursion as All}
+use Rattle.std.specs.List.{AllByRecursion}
 use Rattle.rules.specs.Conditions.{Plan, has, meets, met, condition}
 use Rattle.rules.specs.Plans.{Book, Set, within, Closed, Active, enables, grown, rounds, active, on_at, absent}
 use Rattle.rules.specs.declared.decision.Decision.{Decision}
@@ -42,7 +42,7 @@ meets_more s t p (l ∷ ls) sub h =
     and_from (has (within t p) l) (meets (within t p) ls) (has_more s t p l sub here) (meets_more s t p ls sub later)
 
 -- what holds of every met rule's target holds of every enabled decision
-pub enables_target : (rs : List Row) (q : Plan) (t : Set) (d : ℕ) → All (λ r. met q r ≡ true → t r.target ≡ true) rs → enables rs q d ≡ true → t d ≡ true
+pub enables_target : (rs : List Row) (q : Plan) (t : Set) (d : ℕ) → AllByRecursion (λ r. met q r ≡ true → t r.target ≡ true) rs → enables rs q d ≡ true → t d ≡ true
 enables_target [] q t d all h = absurd (false≢true h)
 enables_target (r ∷ rs) q t d all h =
     ⊎_elim (λ (e : (eqb d r.target && met q r) ≡ true).
@@ -105,7 +105,7 @@ agree_or_more s t sub (suc n) = go (s n) (t n) refl refl (agree_or_more s t sub 
 
 -- every activate rule's target is one of the first n decisions
 abbrev pub Targets : ℕ → List Row → Type 0
-Targets n rs = All (λ r. r.target < n) rs
+Targets n rs = AllByRecursion (λ r. r.target < n) rs
 
 -- nothing past those is enabled
 enables_known : (rs : List Row) (q : Plan) (n d : ℕ) → Targets n rs → enables rs q d ≡ true → d < n
@@ -152,7 +152,7 @@ rounds_more rs p s zero d h = h
 rounds_more rs p s (suc n) d h = or_left (rounds n rs p s d) (enables rs (within (rounds n rs p s) p) d) (rounds_more rs p s n d h)
 
 -- each met rule's target is enabled
-enables_each : (rs : List Row) (q : Plan) → All (λ r. met q r ≡ true → enables rs q r.target ≡ true) rs
+enables_each : (rs : List Row) (q : Plan) → AllByRecursion (λ r. met q r ≡ true → enables rs q r.target ≡ true) rs
 enables_each [] q = tt
 enables_each (r ∷ rs) q = (
   λ h. or_left (eqb r.target r.target && met q r) (enables rs q r.target) (and_from (eqb r.target r.target) (met q r) (eq-eqb r.target r.target refl) h),

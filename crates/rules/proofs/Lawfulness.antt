@@ -1,8 +1,8 @@
 -- The test of lawfulness that is worked out says what lawful means.
-use Rattle.std.proofs.Common.{◌≡◌, ℕ, zero, suc, ◌<◌, ◌≤◌, Bool, true, false, not, ltb, leb, ◌⊎◌, List, [], ◌∷◌, length, sym, refl, ◌∙◌, ⊎_elim, arith}
+use Rattle.std.proofs.Common.{◌≡◌, ℕ, zero, suc, ◌<◌, ◌≤◌, Bool, true, false, not, ltb, leb, List, [], ◌∷◌, length, sym, refl, ◌∙◌, ⊎_elim, arith}
 use mathlib.Core.Bool.{beq}
 use Rattle.std.proofs.lemmas.Bool.{and_parts, and_from, cases_lt, cases_eq, lt-ltb, ltb-true, leb-true, le-leb, not-true, not_from_false}
-use Rattle.std.specs.List.{AllByRecursion as All}
+use Rattle.std.specs.List.{AllByRecursion}
 use Rattle.rules.specs.Conditions.{Plan, met}
 use Rattle.rules.specs.Judging.{Fits, FitsBelow}
 use Rattle.rules.specs.Plans.{Book, active, Lawful, all_below, meets_none, fits, is_lawful, size_at}
@@ -21,7 +21,7 @@ same_true true false h = sym h
 same_true false true h = h
 same_true false false h = refl
 
-none_met : (rs : List Row) (p : Plan) → meets_none rs p ≡ true → All (λ r. met p r ≡ false) rs
+none_met : (rs : List Row) (p : Plan) → meets_none rs p ≡ true → AllByRecursion (λ r. met p r ≡ false) rs
 none_met [] p h = tt
 none_met (r ∷ rs) p h =
     let (here, later) = and_parts (not (met p r)) (meets_none rs p) h in
@@ -37,7 +37,7 @@ both_true true false f g = f refl
 both_true false true f g = g refl
 both_true false false f g = refl
 
-meets_none_lem : (rs : List Row) (p : Plan) → All (λ r. met p r ≡ false) rs → meets_none rs p ≡ true
+meets_none_lem : (rs : List Row) (p : Plan) → AllByRecursion (λ r. met p r ≡ false) rs → meets_none rs p ≡ true
 meets_none_lem [] p h = refl
 meets_none_lem (r ∷ rs) p h = and_from (not (met p r)) (meets_none rs p) (not_from_false (met p r) h.0) (meets_none_lem rs p h.1)
 
@@ -54,7 +54,7 @@ module _ (b : Book) (p : Plan) (known : Targets (length b.decisions) b.activates
       }
 
   -- a plan that treats each decision lawfully, leaves the rest idle and meets no forbid rule is lawful
-  pub lawful_from_fits : FitsBelow b p (length b.decisions) → ((d : ℕ) → length b.decisions ≤ d → p d ≡ 0) → All (λ r. met p r ≡ false) b.forbids → Lawful b p
+  pub lawful_from_fits : FitsBelow b p (length b.decisions) → ((d : ℕ) → length b.decisions ≤ d → p d ≡ 0) → AllByRecursion (λ r. met p r ≡ false) b.forbids → Lawful b p
   lawful_from_fits all idle clear =
       record {
         only_active = λ d h. ⊎_elim (λ (l : d < length b.decisions). (all d l).only_active h) (λ (g : length b.decisions ≤ d). absurd (omega (arith, idle d g))) (cases_lt d (length b.decisions));

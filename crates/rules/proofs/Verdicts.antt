@@ -1,10 +1,10 @@
 -- What the loops of judging find is what a verdict says.
-use Rattle.std.proofs.Common.{◌≡◌, ℕ, suc, ◌+◌, ◌-◌, ◌<◌, ◌≤◌, Bool, true, false, cond, not, ◌&&◌, ◌||◌, eqb, ltb, ◌⊎◌, List, [], ◌∷◌, length, get_or, take, Some, None, Ok, sym, refl, ap, ◌∙◌, subst, ⊎_elim, arith, length-take, get_or-take}
+use Rattle.std.proofs.Common.{◌≡◌, ℕ, suc, ◌+◌, ◌-◌, ◌<◌, ◌≤◌, Bool, true, false, cond, not, ◌&&◌, ◌||◌, eqb, ltb, List, [], ◌∷◌, length, get_or, take, Some, None, Ok, sym, refl, ap, ◌∙◌, subst, ⊎_elim, arith, length-take, get_or-take}
 use mathlib.Core.Path.{fun_ext}
 use native.Mathlib.Nat.{sub-zero}
 use lib.ListN.{get_or-eq_default}
 use Rattle.std.proofs.lemmas.Bool.{and_parts, not-false, ltb-true, ltb-false, lt-ltb, le-ltb, eqb-true, eqb-false, cases_lt, false≢true, both_ways}
-use Rattle.std.specs.List.{AllByRecursion as All}
+use Rattle.std.specs.List.{AllByRecursion}
 use Rattle.rules.specs.Compose.{is_activate}
 use Rattle.rules.specs.Conditions.{Plan, met, condition, from_bytes, plan_of}
 use Rattle.rules.specs.Judging.{open_refusal, row_refusal, rows_refusal, judge_refusal, known_decisions, known_values, sized, book_of, Fits, FitsBelow, FirstMet, Breaks}
@@ -115,11 +115,11 @@ place_found n k (r ∷ rs) p h = go (met p r) refl h (place_found (n + 1) k rs p
 pub place_first : (k : ℕ) (rs : List Row) (p : Plan) → place_from 0 rs p ≡ Some k → FirstMet rs p k
 place_first k rs p h = let (j, same, first) = place_found 0 k rs p h in let e : j ≡ k = omega arith in subst (FirstMet rs p) e first
 
-pub place_none : (n : ℕ) (rs : List Row) (p : Plan) → place_from n rs p ≡ None → All (λ r. met p r ≡ false) rs
+pub place_none : (n : ℕ) (rs : List Row) (p : Plan) → place_from n rs p ≡ None → AllByRecursion (λ r. met p r ≡ false) rs
 place_none n [] p h = tt
 place_none n (r ∷ rs) p h = go (met p r) refl h (place_none (n + 1) rs p)
   where
-    go : (b : Bool) → met p r ≡ b → cond b (Some n) (place_from (n + 1) rs p) ≡ None → (place_from (n + 1) rs p ≡ None → All (λ x. met p x ≡ false) rs) → (met p r ≡ false) × All (λ x. met p x ≡ false) rs
+    go : (b : Bool) → met p r ≡ b → cond b (Some n) (place_from (n + 1) rs p) ≡ None → (place_from (n + 1) rs p ≡ None → AllByRecursion (λ x. met p x ≡ false) rs) → (met p r ≡ false) × AllByRecursion (λ x. met p x ≡ false) rs
     go true e f later = absurd (let z : ◌≡◌ {A = ℕ} 0 1 = cc in omega arith)
     go false e f later = (e, later f)
 

@@ -1,6 +1,6 @@
 -- What judge answers of decisions, rows and a plan.
 use Rattle.std.specs.Prelude.{◌≡◌, ℕ, ◌<◌, ◌≤◌, Bool, true, false, not, ◌&&◌, ◌||◌, List, [], ◌∷◌, length, take, Some, None, Ok, Err, filter, Option, Result, nat_le, nat_lt, slice_index_or}
-use Rattle.std.specs.List.{AllByRecursion as All}
+use Rattle.std.specs.List.{AllByRecursion}
 use Rattle.measure.specs.Meaning.{Meaning}
 use Rattle.rules.specs.Compose.{is_forbid, is_activate, is_price}
 use Rattle.rules.specs.Conditions.{Plan, plan_of, met, condition}
@@ -80,7 +80,7 @@ FitsBelow b p d = (e : ℕ) → e < d → Fits b p e
 
 -- the first met of these rows stands at place k
 abbrev pub FirstMet : List Row → Plan → ℕ → Type 0
-FirstMet rs p k = (k < length rs) × All (λ r. met p r ≡ false) (take k rs) × ((r : Row) → met p (slice_index_or rs k r) ≡ true)
+FirstMet rs p k = (k < length rs) × AllByRecursion (λ r. met p r ≡ false) (take k rs) × ((r : Row) → met p (slice_index_or rs k r) ≡ true)
 
 -- what a breach says: which is the first decision, else the first forbid rule, at fault
 abbrev pub Breaks : Book → Plan → Breach → Type 0

@@ -1,7 +1,7 @@
 -- Books, active decisions, lawful plans and their cost.
 use Rattle.std.specs.Prelude.{◌≡◌, ℕ, zero, suc, ◌<◌, ◌≤◌, Bool, true, false, cond, not, ◌&&◌, ◌||◌, List, [], ◌∷◌, length, ◌==◌, nat_le, nat_lt, slice_index_or}
 use Rattle.std.specs.Bool.{beq}
-use Rattle.std.specs.List.{AllByRecursion as All}
+use Rattle.std.specs.List.{AllByRecursion}
 use Rattle.measure.specs.Meaning.{Meaning}
 use Rattle.rules.specs.Conditions.{Plan, met}
 use Rattle.rules.specs.declared.decision.Decision.{Decision}
@@ -37,7 +37,7 @@ within s p d = cond (s d) (p d) 0
 -- a set is closed if it has each decision marked on, and the target of each activate rule that the plan's choices for the set meet
 pub record Closed (b : Book) (p : Plan) (s : Set) : Type 0 where
   pub marked : (d : ℕ) → on_at b.decisions d ≡ true → s d ≡ true
-  pub enabled : All (λ r. met (within s p) r ≡ true → s r.target ≡ true) b.activates
+  pub enabled : AllByRecursion (λ r. met (within s p) r ≡ true → s r.target ≡ true) b.activates
 
 -- the active decisions are the least closed set: what every closed set has
 abbrev pub Active : Book → Plan → ℕ → Type 0
@@ -48,7 +48,7 @@ pub record Lawful (b : Book) (p : Plan) : Type 0 where
   pub only_active : (d : ℕ) → 0 < p d → Active b p d
   pub all_active : (d : ℕ) → Active b p d → 0 < p d
   pub in_range : (d : ℕ) → p d ≤ size_at b.decisions d
-  pub unforbidden : All (λ r. met p r ≡ false) b.forbids
+  pub unforbidden : AllByRecursion (λ r. met p r ≡ false) b.forbids
 
 -- the cost of a plan joins the costs of all price rules that it meets
 abbrev pub cost : {C : Type 0} → Meaning C → List Row → Plan → C

@@ -1,6 +1,6 @@
 -- What the loops of judging find, by outcome.
 use Rattle.std.specs.Prelude.{◌≡◌, ℕ, ◌+◌, ◌<◌, Bool, true, false, cond, ◌&&◌, ◌||◌, List, [], ◌∷◌, Some, None, Option, ◌==◌, nat_lt, slice_index_or}
-use Rattle.std.specs.List.{AllByRecursion as All}
+use Rattle.std.specs.List.{AllByRecursion}
 use Rattle.rules.specs.Compose.{is_activate}
 use Rattle.rules.specs.Conditions.{Plan, met}
 use Rattle.rules.specs.Plans.{Set, size_at}
@@ -43,4 +43,4 @@ reached (r ∷ rs) p s = reached rs p (cond (is_activate r.kind && met p r) (ins
 
 -- the target of each activate row is one of the first n decisions
 abbrev pub TargetsBelow : ℕ → List Row → Type 0
-TargetsBelow n rs = All (λ r. is_activate r.kind ≡ true → r.target < n) rs
+TargetsBelow n rs = AllByRecursion (λ r. is_activate r.kind ≡ true → r.target < n) rs

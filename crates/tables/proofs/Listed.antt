@@ -1,7 +1,7 @@
 -- Sets of decisions beside lists of the same decisions.
 use Rattle.std.proofs.Common.{◌≡◌, ℕ, ◌<◌, Bool, true, false, ◌&&◌, ◌||◌, eqb, ltb, List, [], ◌∷◌, sym, refl, ap, ◌∙◌, ⊎_elim, arith}
 use mathlib.Core.Path.{fun_ext}
-use Rattle.std.specs.List.{AllByRecursion as All}
+use Rattle.std.specs.List.{AllByRecursion}
 use Rattle.std.proofs.lemmas.Bool.{and_parts, and_from, eq-eqb, eqb-true, lt-ltb, or_cases, or_left, or_right, false≢true}
 use Rattle.rules.specs.Plans.{Set}
 use Rattle.account.specs.Accounts.{has_any}
@@ -10,7 +10,7 @@ use Rattle.sets.proofs.SearchLaws.{some_below_from, some_below_found}
 use Rattle.tables.specs.Entries.{in_list}
 
 -- an element of a list whose elements are all below a bound
-listed_below : (x : ℕ) (ds : List ℕ) → All (λ (d : ℕ). d < 64) ds → in_list x ds ≡ true → x < 64
+listed_below : (x : ℕ) (ds : List ℕ) → AllByRecursion (λ (d : ℕ). d < 64) ds → in_list x ds ≡ true → x < 64
 listed_below x [] all h = absurd (false≢true h)
 listed_below x (d ∷ ds) all h =
     ⊎_elim (λ (t : eqb x d ≡ true). omega (arith, eqb-true x d t, all.0)) (λ (t : in_list x ds ≡ true). listed_below x ds all.1 t) (or_cases (eqb x d) (in_list x ds) h)
@@ -33,7 +33,7 @@ same_truth false true f g = g refl
 same_truth false false f g = refl
 
 -- two sets meet below 64 where one has some decision of the other's list
-pub meets_any : (s t : Set) (ds : List ℕ) → t ≡ (λ (x : ℕ). in_list x ds) → All (λ (d : ℕ). d < 64) ds → some_below (λ (x : ℕ). s x && t x) 64 ≡ has_any s ds
+pub meets_any : (s t : Set) (ds : List ℕ) → t ≡ (λ (x : ℕ). in_list x ds) → AllByRecursion (λ (d : ℕ). d < 64) ds → some_below (λ (x : ℕ). s x && t x) 64 ≡ has_any s ds
 meets_any s t ds e all =
     rw e
     (same_truth (some_below (λ (x : ℕ). s x && in_list x ds) 64) (has_any s ds)

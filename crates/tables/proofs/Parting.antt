@@ -1,6 +1,6 @@
 -- What a retreat leaves of a trail whose entries are proper: what left is off the plan, and the rest stays as it was.
 use Rattle.std.proofs.Common.{◌≡◌, ℕ, zero, suc, ◌+◌, ◌<◌, Bool, true, false, cond, ◌||◌, eqb, List, [], ◌∷◌, get_or, Some, None, sym, refl, ap, ◌∙◌, ⊎_elim, add-zero, add-suc, arith}
-use Rattle.std.specs.List.{AllByRecursion as All}
+use Rattle.std.specs.List.{AllByRecursion}
 use Rattle.std.proofs.lemmas.Bool.{cases_Bool, cases_eq, cond_both, cond-true, cond-false, eq-eqb, ne_eqb, eqb-true, or_cases, false≢true}
 use Rattle.rules.specs.Plans.{Set}
 use Rattle.account.specs.Accounts.{Entry as Choice, chosen, has_any}
@@ -13,7 +13,7 @@ use Rattle.tables.proofs.Entering.{Enters, proper_parts, proper_more}
 
 -- what a retreat r has left of a trail es
 pub record Parted (es : List Choice) (r : Parting) : Type 0 where
-  pub known : All (λ (x : ℕ). x < 64) r.left
+  pub known : AllByRecursion (λ (x : ℕ). x < 64) r.left
   -- what left was on the trail
   pub were : (x : ℕ) → in_list x r.left ≡ true → 0 < chosen es x
   pub planned : (x : ℕ) → chosen r.stays x ≡ cond (in_list x r.left) 0 (chosen es x)

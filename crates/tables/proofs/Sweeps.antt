@@ -1,7 +1,7 @@
 -- The arrays of a trail while a retreat sweeps over them.
 use Rattle.std.proofs.Common.{◌≡◌, ℕ, suc, ◌+◌, ◌-◌, ◌<◌, Bool, true, false, cond, ◌&&◌, ◌||◌, eqb, ltb, List, [], ◌∷◌, length, get_or, set, Some, sym, refl, ap, ◌∙◌, subst, ⊎_elim, arith}
 use mathlib.Core.Path.{fun_ext}
-use Rattle.std.specs.List.{AllByRecursion as All}
+use Rattle.std.specs.List.{AllByRecursion}
 use Rattle.std.proofs.lemmas.List.{get_or-set_same, get_or-set_other, length-set}
 use Rattle.std.proofs.lemmas.Bool.{cases_eq, cond-true, cond-false, eq-eqb, ne_eqb, or_left}
 use Rattle.rules.specs.Conditions.{Plan, from_bytes}
@@ -76,7 +76,7 @@ module _ (es : List Entry) (place count i : ℕ) (p : proper (entries_of es coun
   pub met_below : e.decision < 64
   met_below = omega (arith, ap (λ (x : Entry). x.decision) is, (entry_proper es count i p within).0.known)
 
-  left_below : All (λ (d : ℕ). d < 64) (swept es place (i - (place + 1))).left
+  left_below : AllByRecursion (λ (d : ℕ). d < 64) (swept es place (i - (place + 1))).left
   left_below =
       let b : suc (place + (i - (place + 1))) ≡ i = omega arith in
       (swept_parted es place (i - (place + 1)) (ap (λ (k : ℕ). proper (entries_of es k)) b ∙ (entry_proper es count i p within).1)).known
@@ -127,7 +127,7 @@ module _ (blame : Set) (es : List Entry) (place count : ℕ) (l : Latest blame e
       ∙ ap (λ (c : Choice). Some (record { culprit = c; left = r.left; stays = r.stays })) (swept_culprit es place (count - (place + 1)))
       ∙ ap (λ (cs : List Choice). Some (record { culprit = entry_of (get_or es place blank); left = r.left; stays = cs })) (sym h.stays)
 
-  pub sweep_known : All (λ (d : ℕ). d < 64) (swept es place (count - (place + 1))).left
+  pub sweep_known : AllByRecursion (λ (d : ℕ). d < 64) (swept es place (count - (place + 1))).left
   sweep_known = parted.known
 
   pub sweep_proper : proper (entries_of ns n) ≡ true

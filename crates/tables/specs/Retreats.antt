@@ -1,6 +1,6 @@
 -- What a retreat finds and leaves of a trail's entries.
 use Rattle.std.specs.Prelude.{◌≡◌, ℕ, zero, suc, ◌+◌, ◌<◌, true, false, cond, List, [], ◌∷◌, length, get_or, Some, None, Option, slice_index_or}
-use Rattle.std.specs.List.{AllByRecursion as All}
+use Rattle.std.specs.List.{AllByRecursion}
 use Rattle.rules.specs.Conditions.{from_bytes}
 use Rattle.rules.specs.Plans.{Set}
 use Rattle.account.specs.Accounts.{Entry as Choice, has_any}
@@ -41,4 +41,4 @@ abbrev pub Retreated : Set → List Choice → List Choice → Option Retreat �
 Retreated blame before after None = (retreat blame before ≡ None) × (after ≡ before)
 Retreated blame before after (Some r) =
     (left : List ℕ) × (retreat blame before ≡ Some (record { culprit = entry_of r.culprit; left = left; stays = after }))
-    × (members r.left ≡ (λ (x : ℕ). in_list x left)) × All (λ (x : ℕ). x < 64) left
+    × (members r.left ≡ (λ (x : ℕ). in_list x left)) × AllByRecursion (λ (x : ℕ). x < 64) left

@@ -1,6 +1,5 @@
-use Rattle.std.proofs.Common.{◌≡◌, ◌+◌, ◌-◌, ◌<◌, ◌≤◌, List, length, drop, sym, ◌∙◌, arith, length-set}
+use Rattle.std.proofs.Common.{◌≡◌, ◌+◌, ◌-◌, ◌<◌, ◌≤◌, length, ◌∙◌, arith, length-set}
 use Rattle.rules.specs.Conditions.{from_bytes}
-use Rattle.rules.specs.Plans.{cost}
 use Rattle.scans.proofs.Costs.{cost_before, cost_none, suffixes_none, suffixes_more}
 use Rattle.scans.proofs.prices.price_suffixes.Goals as goal
 
