@@ -1,7 +1,7 @@
 -- Load agrees with open and adds: what a text of decisions and rules is loaded as, or its fault.
 use Rattle.std.proofs.Common.{◌≡◌, ℕ, suc, ◌+◌, Bool, true, false, ◌||◌, List, [], ◌∷◌, ◌++◌, map, length, Some, None, Option, Result, sym, refl, ap, ◌∙◌, append_assoc, append-nil, add-zero, add_comm, arith}
 use Rattle.std.specs.Option.{option_map}
-use Rattle.std.specs.List.{AllByRecursion as All}
+use Rattle.std.specs.List.{AllByRecursion}
 use Rattle.std.proofs.ByRecursion.{All-append}
 use Rattle.std.proofs.lemmas.Bool.{and_right, le-leb}
 use Rattle.measure.specs.Meaning.{Meaning}
@@ -24,26 +24,26 @@ use Rattle.statements.specs.declared.fault.Fault.{Fault}
 use Rattle.grammar.specs.Grammar.{ended_lines}
 use Rattle.grammar.proofs.Joins.{Lacks}
 use Rattle.grammar.proofs.Texts.{line_lacks, lines_from}
-use Rattle.book.specs.Laws.{AgreesWithCalls, BytePaired, ByteSized, added_from, opened_from, stated_by}
+use Rattle.book.specs.Laws.{AgreesWithCalls, BytePaired, ByteSized, IsExact, added_from, opened_from, stated_by}
 use Rattle.book.specs.Loads.{carried, load_lines, statement_refusal}
 use Rattle.book.proofs.LoadSteps.{lines_end, small_enough}
 use Rattle.book.proofs.Linewise.{load_text}
 use Rattle.book.proofs.Rulings.{rule_lines, stated_fits, stated_rule}
 
 -- no line of these has a byte 10
-decisions_lack : (ds : List Decision) → All ByteSized ds → All (Lacks 10) (map decision_line ds)
+decisions_lack : (ds : List Decision) → AllByRecursion ByteSized ds → AllByRecursion (Lacks 10) (map decision_line ds)
 decisions_lack [] h = tt
 decisions_lack (d ∷ ds) h = (line_lacks (decides d) (le-leb d.size 255 h.0), decisions_lack ds h.1)
 
-rules_lack : (rs : List Rule) → All BytePaired rs → All (Lacks 10) (rule_lines rs)
-rules_lack [] h = tt
-rules_lack (r ∷ rs) h = (line_lacks (stated_rule r) (stated_fits r h.0), rules_lack rs h.1)
+rules_lack : (rs : List Rule) → AllByRecursion BytePaired rs → AllByRecursion IsExact rs → AllByRecursion (Lacks 10) (rule_lines rs)
+rules_lack [] h exact = tt
+rules_lack (r ∷ rs) h exact = (line_lacks (stated_rule r) (stated_fits r h.0 exact.0), rules_lack rs h.1 exact.1)
 
 -- the lines of the text of decisions and rules
-pub lines_stated : (ds : List Decision) (rs : List Rule) → All ByteSized ds → All BytePaired rs → lines_of (stated_by ds rs) ≡ ended_lines 1 (map decision_line ds ++ rule_lines rs)
-lines_stated ds rs sizes pairs =
+pub lines_stated : (ds : List Decision) (rs : List Rule) → AllByRecursion ByteSized ds → AllByRecursion BytePaired rs → AllByRecursion IsExact rs → lines_of (stated_by ds rs) ≡ ended_lines 1 (map decision_line ds ++ rule_lines rs)
+lines_stated ds rs sizes pairs exact =
     lines_from 1 (map decision_line ds ++ rule_lines rs)
-    (All-append (Lacks 10) (map decision_line ds) (rule_lines rs) (decisions_lack ds sizes) (rules_lack rs pairs))
+    (All-append (Lacks 10) (map decision_line ds) (rule_lines rs) (decisions_lack ds sizes) (rules_lack rs pairs exact))
 
 -- one error before another
 unless_twice : {X E : Type 0} (o p : Option E) (r : Result X E) → unless o (unless p r) ≡ unless (or_else o p) r
@@ -52,7 +52,7 @@ unless_twice None p r = refl
 
 module _ {C : Type 0} (m : Meaning C) where
   -- the lines of decisions, and those behind them
-  pub load_decisions : (ds : List Decision) → All ByteSized ds → (n : ℕ) (before : List Decision) (ls : List (List ℕ)) → load_lines m false (fresh before) (ended_lines n (map decision_line ds ++ ls)) ≡ unless (opened_from m n before ds) (load_lines m false (fresh (before ++ ds)) (ended_lines (n + length ds) ls))
+  pub load_decisions : (ds : List Decision) → AllByRecursion ByteSized ds → (n : ℕ) (before : List Decision) (ls : List (List ℕ)) → load_lines m false (fresh before) (ended_lines n (map decision_line ds ++ ls)) ≡ unless (opened_from m n before ds) (load_lines m false (fresh (before ++ ds)) (ended_lines (n + length ds) ls))
   load_decisions [] h n before ls = rw (append-nil, add-zero)
   load_decisions (d ∷ ds) h n before ls =
       let here = option_map (λ (e : Refusal). fault e n 1) (open_refusal (before ++ d ∷ [])) in
@@ -70,30 +70,30 @@ module _ {C : Type 0} (m : Meaning C) where
   follows a r f g None = refl
 
   -- why a rule's line is refused: as add refuses the rule
-  refusal_of : (a : Account C) (r : Rule) → statement_refusal a (stated_rule r) ≡ add_refusal a r.row
-  refusal_of a r =
-      ap (λ (o : Option Refusal). or_else o (add_refusal a (composed r.row.kind (condition r.row) r.row.target r.row.price))) (rule_accepted r)
-      ∙ ap (add_refusal a) (sym (rule_composed r))
+  refusal_of : (a : Account C) (r : Rule) → IsExact r → statement_refusal a (stated_rule r) ≡ add_refusal a r.row
+  refusal_of a r exact =
+      ap (λ (o : Option Refusal). or_else o (add_refusal a (composed r.row.kind (condition r.row) r.row.target r.row.price))) (rule_accepted r exact)
+      ∙ ap (add_refusal a) (sym (rule_composed r exact))
 
   -- the lines of rules
-  pub load_rules : (rs : List Rule) → All BytePaired rs → (began : Bool) (n : ℕ) (a : Account C) → load_lines m began a (ended_lines n (rule_lines rs)) ≡ added_from m n a rs
-  load_rules [] h began n a = lines_end m began a [] refl
-  load_rules (r ∷ rs) h began n a =
+  pub load_rules : (rs : List Rule) → AllByRecursion BytePaired rs → AllByRecursion IsExact rs → (began : Bool) (n : ℕ) (a : Account C) → load_lines m began a (ended_lines n (rule_lines rs)) ≡ added_from m n a rs
+  load_rules [] h exact began n a = lines_end m began a [] refl
+  load_rules (r ∷ rs) h exact began n a =
       let at : Refusal → Fault = λ e. fault e n 1 in
       let ls = ended_lines (n + 1) (rule_lines rs) in
       let next : Account C → Result (Account C) Fault = λ b. load_lines m (began || true) b ls in
-      load_text m began a n ls (stated_rule r) (stated_fits r h.0) (and_right began false refl)
-      ∙ ap (λ (o : Option Refusal). unless (option_map at o) (next (carried m a (stated_rule r)))) (refusal_of a r)
-      ∙ ap (λ (w : Row). unless (option_map at (add_refusal a r.row)) (next (added m a r.row.kind w))) (sym (rule_composed r))
+      load_text m began a n ls (stated_rule r) (stated_fits r h.0 exact.0) (and_right began false refl)
+      ∙ ap (λ (o : Option Refusal). unless (option_map at o) (next (carried m a (stated_rule r)))) (refusal_of a r exact.0)
+      ∙ ap (λ (w : Row). unless (option_map at (add_refusal a r.row)) (next (added m a r.row.kind w))) (sym (rule_composed r exact.0))
       ∙ follows a r at next (add_refusal a r.row)
-      ∙ ap (unless (option_map at (add_refusal a r.row))) (load_rules rs h.1 (began || true) (n + 1) (after m a (add r)))
+      ∙ ap (unless (option_map at (add_refusal a r.row))) (load_rules rs h.1 exact.1 (began || true) (n + 1) (after m a (add r)))
 
   -- the law
   pub agrees : (text : List ℕ) → AgreesWithCalls m text
-  agrees text ds rs text_is short sizes pairs =
+  agrees text ds rs text_is short sizes pairs exact =
       small_enough m text (fresh []) short refl
       ∙ ap (λ (t : List ℕ). load_lines m false (fresh []) (lines_of t)) text_is
-      ∙ ap (load_lines m false (fresh [])) (lines_stated ds rs sizes pairs)
+      ∙ ap (load_lines m false (fresh [])) (lines_stated ds rs sizes pairs exact)
       ∙ load_decisions ds sizes 1 [] (rule_lines rs)
-      ∙ ap (unless (opened_from m 1 [] ds)) (load_rules rs pairs false (1 + length ds) (fresh ds))
+      ∙ ap (unless (opened_from m 1 [] ds)) (load_rules rs pairs exact false (1 + length ds) (fresh ds))
       ∙ ap (λ (n : ℕ). unless (opened_from m 1 [] ds) (added_from m n (fresh ds) rs)) (add_comm 1 (length ds))

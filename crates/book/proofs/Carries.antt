@@ -10,7 +10,7 @@ use Rattle.rules.specs.declared.row.Kind.{Kind}
 use Rattle.rules.specs.declared.row.Row.{Row}
 use Rattle.rules.specs.declared.rule.Rule.{Rule}
 use Rattle.account.specs.Accounts.{Account}
-use Rattle.account.specs.Calls.{add, add_refusal, after, after_if, answer, answer_if, done, refused}
+use Rattle.account.specs.Calls.{add, add_refusal, after, after_if, answer, answer_if}
 use Rattle.account.specs.Changes.{added}
 use Rattle.planner.specs.Answers.{says_done}
 

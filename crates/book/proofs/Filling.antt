@@ -1,16 +1,15 @@
 -- A text measured and then stored fills the buffer as it should.
-use Rattle.std.proofs.Common.{◌≡◌, ℕ, ◌≤◌, Bool, true, false, cond, ltb, List, [], ◌∷◌, ◌++◌, map, length, drop, Ok, Err, Result, sym, refl, ap, ◌∙◌, arith}
+use Rattle.std.proofs.Common.{◌≡◌, ℕ, ◌≤◌, true, false, ltb, List, ◌++◌, map, length, drop, Ok, Err, sym, refl, ap, ◌∙◌}
 use Rattle.std.proofs.lemmas.Bool.{cond-false, cond-true, ltb-false}
 use Rattle.rules.specs.declared.decision.Decision.{Decision}
-use Rattle.rules.specs.declared.refusal.Refusal.{Refusal}
 use Rattle.rules.specs.declared.refusal.Refusal.TheVariants.{ShortText}
 use Rattle.rules.specs.declared.row.Row.{Row}
 use Rattle.rendering.specs.Texts.{book_text, decision_line, ended, rule_line}
 use Rattle.rendering.proofs.Lines.{book_parts, ended_append}
-use Rattle.std.proofs.lemmas.List.{append_assoc, map-append}
+use Rattle.std.proofs.lemmas.List.{map-append}
 use Rattle.writing.specs.Writes.{Wrote, fresh}
 use Rattle.writing.specs.declared.writer.Writer.{Writer}
-use Rattle.writing.proofs.Writes.{beginning, joined, measured_full, reworded, stored_length, stored_whole}
+use Rattle.writing.proofs.Writes.{beginning, measured_full, stored_length, stored_whole}
 use Rattle.book.specs.Fills.{counted, filled}
 
 module _ (old xs : List ℕ) (w v : Writer) (mid : List ℕ) (begins : w ≡ fresh true) (measured : Wrote w old xs v mid) where

@@ -5,7 +5,7 @@ use lib.ListN.{length-map}
 use Rattle.std.proofs.ByRecursion.{All-append, All-push, All-weaker}
 use Rattle.std.proofs.lemmas.List.{append-nil, append_assoc, map_push, take-map, drop-map}
 use Rattle.std.proofs.lemmas.Bool.{leb-false, lt-leb}
-use Rattle.std.specs.List.{remove, AllByRecursion as All}
+use Rattle.std.specs.List.{remove, AllByRecursion}
 use Rattle.measure.specs.Meaning.{Meaning}
 use Rattle.rules.specs.Judging.{row_refusal}
 use Rattle.rules.specs.Plans.{Book}
@@ -21,28 +21,29 @@ use Rattle.account.specs.Calls.{Call, add, withdraw, rank, run, best, exclusion,
 use Rattle.account.specs.Changes.{held, with_rules, added, withdrawn}
 use Rattle.account.proofs.Changed.{all_removed}
 use Rattle.account.proofs.Histories.{advance_book}
-use Rattle.book.specs.Laws.{Accepted, rows_of}
+use Rattle.book.specs.Laws.{Accepted, AddIsExact, AddsExact, IsExact, rows_of}
 
 -- the row of a rule
 abbrev pub row_of : Rule → Row
 row_of r = r.row
 
--- a rule of a kind, which these decisions allow
+-- a rule of a kind, as new and compose make them, which these decisions allow
 pub record Allowed (ds : List Decision) (k : Kind) (r : Rule) : Type 0 where
   pub of_kind : r.row.kind ≡ k
   pub known : row_refusal ds r.row ≡ None
+  pub exact : IsExact r
 
 -- rows are those of rules of a kind, all allowed, no more than a table holds
 pub record HeldRules (ds : List Decision) (k : Kind) (rows : List Row) : Type 0 where
   pub rules : List Rule
   pub rows_are : map row_of rules ≡ rows
-  pub allowed : All (Allowed ds k) rules
+  pub allowed : AllByRecursion (Allowed ds k) rules
   pub few : length rules ≤ 256
 
 -- a book over these decisions holds such rows of each kind
 pub record Holds (ds : List Decision) (b : Book) : Type 0 where
   pub decisions_are : b.decisions ≡ ds
-  pub rules_of_lem : (k : Kind) → HeldRules ds k (held b k)
+  pub by_kind : (k : Kind) → HeldRules ds k (held b k)
 
 module _ (ds : List Decision) (k : Kind) where
   held_none : HeldRules ds k []
@@ -82,10 +83,10 @@ with_held P b Price rows new old Forbid = old Forbid
 with_held P b Price rows new old Activate = old Activate
 with_held P b Price rows new old Price = new
 
-with_decisions_lem : (b : Book) (k : Kind) (rows : List Row) → (with_rules b k rows).decisions ≡ b.decisions
-with_decisions_lem b Forbid rows = refl
-with_decisions_lem b Activate rows = refl
-with_decisions_lem b Price rows = refl
+with_same_decisions : (b : Book) (k : Kind) (rows : List Row) → (with_rules b k rows).decisions ≡ b.decisions
+with_same_decisions b Forbid rows = refl
+with_same_decisions b Activate rows = refl
+with_same_decisions b Price rows = refl
 
 with_again : (b : Book) (k : Kind) (old new : List Row) → with_rules (with_rules b k old) k (held (with_rules b k old) k ++ new) ≡ with_rules b k (old ++ new)
 with_again b Forbid old new = refl
@@ -99,7 +100,7 @@ with_same b Price rows = refl
 
 holds_with : (ds : List Decision) (b : Book) (k : Kind) (rows : List Row) → Holds ds b → HeldRules ds k rows → Holds ds (with_rules b k rows)
 holds_with ds b k rows h new =
-    record { decisions_are = with_decisions_lem b k rows ∙ h.decisions_are; rules_of_lem = with_held (HeldRules ds) b k rows new h.rules_of_lem }
+    record { decisions_are = with_same_decisions b k rows ∙ h.decisions_are; by_kind = with_held (HeldRules ds) b k rows new h.by_kind }
 
 none_held : (ds : List Decision) (k : Kind) → HeldRules ds k (held (record { decisions = ds; forbids = []; activates = []; prices = [] }) k)
 none_held ds Forbid = held_none ds Forbid
@@ -123,38 +124,38 @@ module _ {C : Type 0} (m : Meaning C) where
   module _ (ds : List Decision) where
     -- a new account holds no rule
     pub fresh_holds : Holds ds (fresh {C = C} ds).book
-    fresh_holds = record { decisions_are = refl; rules_of_lem = none_held ds }
+    fresh_holds = record { decisions_are = refl; by_kind = none_held ds }
 
-    leaves_holds : (a : Account C) (c : Call) → Holds ds a.book → refusal a c ≡ None → Holds ds (leaves m a c).book
-    leaves_holds a (add r) h none =
+    leaves_holds : (a : Account C) (c : Call) → AddIsExact c → Holds ds a.book → refusal a c ≡ None → Holds ds (leaves m a c).book
+    leaves_holds a (add r) exact h none =
         let (known, room) = or_else_none _ _ none in
         let k = r.row.kind in
-        let one : Allowed ds k r = record { of_kind = refl; known = subst (λ (es : List Decision). row_refusal es r.row ≡ None) h.decisions_are known } in
-        let new = held_push ds k (held a.book k) (h.rules_of_lem k) r one (leb-false 256 (length (held a.book k)) (when_none _ _ room)) in
+        let one : Allowed ds k r = record { of_kind = refl; known = subst (λ (es : List Decision). row_refusal es r.row ≡ None) h.decisions_are known; exact = exact } in
+        let new = held_push ds k (held a.book k) (h.by_kind k) r one (leb-false 256 (length (held a.book k)) (when_none _ _ room)) in
         subst (Holds ds) (sym (added_book a k r.row)) (holds_with ds a.book k (held a.book k ++ r.row ∷ []) h new)
-    leaves_holds a (withdraw k n) h none =
-        subst (Holds ds) (sym (withdrawn_book a k n)) (holds_with ds a.book k (remove (held a.book k) n) h (held_removed ds k (held a.book k) n (h.rules_of_lem k)))
-    leaves_holds a (rank d n) h none = h
-    leaves_holds a (run n) h none = subst (Holds ds) (sym (advance_book m n a)) h
-    leaves_holds a (best bytes) h none = h
-    leaves_holds a (exclusion d v) h none = h
-    leaves_holds a (unexcluded d) h none = h
+    leaves_holds a (withdraw k n) exact h none =
+        subst (Holds ds) (sym (withdrawn_book a k n)) (holds_with ds a.book k (remove (held a.book k) n) h (held_removed ds k (held a.book k) n (h.by_kind k)))
+    leaves_holds a (rank d n) exact h none = h
+    leaves_holds a (run n) exact h none = subst (Holds ds) (sym (advance_book m n a)) h
+    leaves_holds a (best bytes) exact h none = h
+    leaves_holds a (exclusion d v) exact h none = h
+    leaves_holds a (unexcluded d) exact h none = h
 
     -- a call keeps it so
-    pub after_holds : (a : Account C) (c : Call) → Holds ds a.book → Holds ds (after m a c).book
-    after_holds a c h = go (refusal a c) refl
+    pub after_holds : (a : Account C) (c : Call) → AddIsExact c → Holds ds a.book → Holds ds (after m a c).book
+    after_holds a c exact h = go (refusal a c) refl
       where
         go : (o : Option Refusal) → refusal a c ≡ o → Holds ds (after_if m a c o).book
-        go None none = leaves_holds a c h none
+        go None none = leaves_holds a c exact h none
         go (Some e) none = h
 
-    history_holds : (a : Account C) (cs : List Call) → Holds ds a.book → Holds ds (history m a cs).book
-    history_holds a [] h = h
-    history_holds a (c ∷ cs) h = history_holds (after m a c) cs (after_holds a c h)
+    history_holds : (a : Account C) (cs : List Call) → AddsExact cs → Holds ds a.book → Holds ds (history m a cs).book
+    history_holds a [] exact h = h
+    history_holds a (c ∷ cs) exact h = history_holds (after m a c) cs exact.1 (after_holds a c exact.0 h)
 
-    -- so after any list of calls on a new account
-    pub calls_hold : (cs : List Call) → Holds ds (history m (fresh ds) cs).book
-    calls_hold cs = history_holds (fresh ds) cs fresh_holds
+    -- so after any list of calls on a new account that adds such rules
+    pub calls_hold : (cs : List Call) → AddsExact cs → Holds ds (history m (fresh ds) cs).book
+    calls_hold cs exact = history_holds (fresh ds) cs exact fresh_holds
 
   -- adding rules one by one is accepted, and makes a book
   pub record Adds (a : Account C) (rs : List Rule) (b : Book) : Type 0 where
@@ -172,31 +173,31 @@ module _ {C : Type 0} (m : Meaning C) where
       → (refusal a (add r) ≡ None) × ((after m a (add r)).book ≡ with_rules a.book k (held a.book k ++ r.row ∷ []))
   add_one_more ds k a r over one room =
       let known : row_refusal a.book.decisions r.row ≡ None = subst (λ (es : List Decision). row_refusal es r.row ≡ None) (sym over) one.known in
-      let open-place : leb 256 (length (held a.book r.row.kind)) ≡ false = lt-leb 256 (length (held a.book r.row.kind)) (subst (λ (j : Kind). length (held a.book j) < 256) (sym one.of_kind) room) in
-      let none : refusal a (add r) ≡ None = rw (known, open-place) refl in
+      let open_place : leb 256 (length (held a.book r.row.kind)) ≡ false = lt-leb 256 (length (held a.book r.row.kind)) (subst (λ (j : Kind). length (held a.book j) < 256) (sym one.of_kind) room) in
+      let none : refusal a (add r) ≡ None = rw (known, open_place) refl in
       (none, ap (λ (o : Option Refusal). (after_if m a (add r) o).book) none ∙ added_book a r.row.kind r.row ∙ ap (λ (j : Kind). with_rules a.book j (held a.book j ++ r.row ∷ [])) one.of_kind)
 
   -- allowed rules of one kind, added behind those held, where there is room for all
   pub adds_kind : (ds : List Decision) (k : Kind) (b : Book) → b.decisions ≡ ds → (old : List Row) (rs : List Rule) (a : Account C) → a.book ≡ with_rules b k old
-      → All (Allowed ds k) rs → length old + length rs ≤ 256 → Adds a rs (with_rules b k (old ++ map row_of rs))
+      → AllByRecursion (Allowed ds k) rs → length old + length rs ≤ 256 → Adds a rs (with_rules b k (old ++ map row_of rs))
   adds_kind ds k b over old [] a is all room = record { accepted = tt; book_is = is ∙ ap (λ (rows : List Row). with_rules b k rows) (sym (append-nil old)) }
   adds_kind ds k b over old (r ∷ rs) a is all room =
       let places : length (held a.book k) < 256 = omega (arith, ap (λ (c : Book). length (held c k)) is, ap length (with_same b k old)) in
-      let (none, next) = add_one_more ds k a r (ap (λ (c : Book). c.decisions) is ∙ with_decisions_lem b k old ∙ over) all.0 places in
-      let now-is : (after m a (add r)).book ≡ with_rules b k (old ++ r.row ∷ []) = next ∙ ap (λ (c : Book). with_rules c k (held c k ++ r.row ∷ [])) is ∙ with_again b k old (r.row ∷ []) in
-      let rest = adds_kind ds k b over (old ++ r.row ∷ []) rs (after m a (add r)) now-is all.1 (omega (arith, length-append old (r.row ∷ []))) in
+      let (none, next) = add_one_more ds k a r (ap (λ (c : Book). c.decisions) is ∙ with_same_decisions b k old ∙ over) all.0 places in
+      let now_is : (after m a (add r)).book ≡ with_rules b k (old ++ r.row ∷ []) = next ∙ ap (λ (c : Book). with_rules c k (held c k ++ r.row ∷ [])) is ∙ with_again b k old (r.row ∷ []) in
+      let rest = adds_kind ds k b over (old ++ r.row ∷ []) rs (after m a (add r)) now_is all.1 (omega (arith, length-append old (r.row ∷ []))) in
       record { accepted = (none, rest.accepted); book_is = rest.book_is ∙ ap (λ (rows : List Row). with_rules b k rows) (append_assoc old (r.row ∷ []) (map row_of rs)) }
 
 -- the rules that a book holds, as they are written
 abbrev pub rules_of : (ds : List Decision) (b : Book) → Holds ds b → List Rule
-rules_of ds b h = (h.rules_of_lem Forbid).rules ++ ((h.rules_of_lem Activate).rules ++ (h.rules_of_lem Price).rules)
+rules_of ds b h = (h.by_kind Forbid).rules ++ ((h.by_kind Activate).rules ++ (h.by_kind Price).rules)
 
 -- their rows are the book's
 pub rows_are : (ds : List Decision) (b : Book) (h : Holds ds b) → map row_of (rules_of ds b h) ≡ rows_of b
 rows_are ds b h =
-    let fs = h.rules_of_lem Forbid in
-    let gs = h.rules_of_lem Activate in
-    let ps = h.rules_of_lem Price in
+    let fs = h.by_kind Forbid in
+    let gs = h.by_kind Activate in
+    let ps = h.by_kind Price in
     map-append row_of fs.rules (gs.rules ++ ps.rules)
     ∙ ap (λ (rows : List Row). map row_of fs.rules ++ rows) (map-append row_of gs.rules ps.rules)
     ∙ ap (λ (rows : List Row). rows ++ (map row_of gs.rules ++ map row_of ps.rules)) fs.rows_are
@@ -204,20 +205,20 @@ rows_are ds b h =
     ∙ ap (λ (rows : List Row). b.forbids ++ (b.activates ++ rows)) ps.rows_are
 
 -- what holds of every allowed rule holds of all that are held
-pub all_rules : (ds : List Decision) (b : Book) (h : Holds ds b) (P : Rule → Type 0) → ((k : Kind) (r : Rule) → Allowed ds k r → P r) → All P (rules_of ds b h)
+pub all_rules : (ds : List Decision) (b : Book) (h : Holds ds b) (P : Rule → Type 0) → ((k : Kind) (r : Rule) → Allowed ds k r → P r) → AllByRecursion P (rules_of ds b h)
 all_rules ds b h P each =
-    All-append P (h.rules_of_lem Forbid).rules ((h.rules_of_lem Activate).rules ++ (h.rules_of_lem Price).rules) (all Forbid)
-    (All-append P (h.rules_of_lem Activate).rules (h.rules_of_lem Price).rules (all Activate) (all Price))
+    All-append P (h.by_kind Forbid).rules ((h.by_kind Activate).rules ++ (h.by_kind Price).rules) (all Forbid)
+    (All-append P (h.by_kind Activate).rules (h.by_kind Price).rules (all Activate) (all Price))
   where
-    all : (k : Kind) → All P (h.rules_of_lem k).rules
-    all k = All-weaker (Allowed ds k) P (each k) (h.rules_of_lem k).rules (h.rules_of_lem k).allowed
+    all : (k : Kind) → AllByRecursion P (h.by_kind k).rules
+    all k = All-weaker (Allowed ds k) P (each k) (h.by_kind k).rules (h.by_kind k).allowed
 
 -- there are at most three tables of them
 pub rules_few : (ds : List Decision) (b : Book) (h : Holds ds b) → length (rules_of ds b h) ≤ 768
 rules_few ds b h =
-    let fs = h.rules_of_lem Forbid in
-    let gs = h.rules_of_lem Activate in
-    let ps = h.rules_of_lem Price in
+    let fs = h.by_kind Forbid in
+    let gs = h.by_kind Activate in
+    let ps = h.by_kind Price in
     omega (arith, length-append fs.rules (gs.rules ++ ps.rules), length-append gs.rules ps.rules, fs.few, gs.few, ps.few)
 
 same_books : (ds es : List Decision) (ws xs us vs ps qs : List Row) → ds ≡ es → ws ≡ xs → us ≡ vs → ps ≡ qs
@@ -227,9 +228,9 @@ same_books ds es ws xs us vs ps qs decisions forbids activates prices = cc
 -- added to a new account over the same decisions, they make the book again
 pub adds_again : {C : Type 0} (m : Meaning C) (ds : List Decision) (b : Book) (h : Holds ds b) → Adds m (fresh ds) (rules_of ds b h) b
 adds_again {C} m ds b h =
-    let fs = h.rules_of_lem Forbid in
-    let gs = h.rules_of_lem Activate in
-    let ps = h.rules_of_lem Price in
+    let fs = h.by_kind Forbid in
+    let gs = h.by_kind Activate in
+    let ps = h.by_kind Price in
     let none = (fresh {C = C} ds).book in
     let one = with_rules none Forbid (map row_of fs.rules) in
     let two = with_rules one Activate (map row_of gs.rules) in

@@ -7,6 +7,7 @@ pub mod LoadSteps
 pub mod Filling
 pub mod Telling
 pub mod Running
+pub mod Exactness
 pub mod Rulings
 pub mod Linewise
 pub mod Agreeing

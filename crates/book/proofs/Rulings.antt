@@ -1,6 +1,6 @@
 -- Rules, and what their lines state.
 use Rattle.std.proofs.Common.{◌≡◌, ℕ, ◌≤◌, true, ◌&&◌, ◌||◌, eqb, leb, List, [], ◌∷◌, map, length, None, sym, refl, ap, arith, length-take}
-use Rattle.std.specs.List.{AllByRecursion as All}
+use Rattle.std.specs.List.{AllByRecursion}
 use Rattle.std.proofs.lemmas.Bool.{and_from, and_parts, eqb-true, le-leb, leb-true}
 use Rattle.measure.specs.declared.price.Price.{Price}
 use Rattle.rules.specs.Compose.{compose_refusal, composed, free, in_range, is_activate, is_exact, is_free, is_price}
@@ -14,7 +14,8 @@ use Rattle.rules.proofs.Composing.{accepted_shape, composed_condition}
 use Rattle.rendering.specs.Texts.{parts_line, rule_line}
 use Rattle.statements.specs.Statements.{Stated, rules}
 use Rattle.grammar.specs.Grammar.{fitting, fitting_head, fitting_pair, fitting_pairs}
-use Rattle.book.specs.Laws.{BytePaired}
+use Rattle.book.specs.Laws.{BytePaired, IsExact}
+use Rattle.book.proofs.Exactness.{composed_exact}
 
 -- the lines of rules
 abbrev pub rule_lines : List Rule → List (List ℕ)
@@ -42,29 +43,20 @@ head_bytes Priced t price h =
     let low = and_parts (leb price.tier 255) (leb price.cents 4294967295) fit.1 in
     (omega (arith, eqb-true t 0 fit.0), leb-true price.tier 255 low.0)
 
--- parts that fit, and that compose accepts, make a rule
-pub rule_of : (k : Kind) (ps : List Literal) (t : ℕ) (price : Price) → fitting (rules k ps t price) ≡ true → compose_refusal k ps price ≡ None → (r : Rule) × (r.row ≡ composed k ps t price)
+-- parts that fit, and that compose accepts, make a rule, which is exact
+pub rule_of : (k : Kind) (ps : List Literal) (t : ℕ) (price : Price) → fitting (rules k ps t price) ≡ true → compose_refusal k ps price ≡ None → (r : Rule) × ((r.row ≡ composed k ps t price) × IsExact r)
 rule_of k ps t price fit accepted =
     let head = (and_parts (fitting_pairs ps) (fitting_head k t price) (and_parts (leb 1 (length ps) && leb (length ps) 4) _ fit).1).1 in
     let bytes = head_bytes k t price head in
-    let shape = accepted_shape (composed k ps t price) k ps t price refl bytes.0 bytes.1 accepted in (
-      record {
-        row = composed k ps t price;
-        some = shape.0;
-        few = shape.1.0;
-        full = shape.1.1.0;
-        ascending = shape.1.1.1.0;
-        exact = shape.1.1.1.1.0;
-      },
-      refl,
-    )
+    let (some, few, full, ascending) = accepted_shape (composed k ps t price) k ps t price refl accepted in
+    (record { row = composed k ps t price; some = some; few = few; full = full; ascending = ascending }, (refl, composed_exact k ps t price bytes.0 bytes.1 accepted))
 
 -- what the line of a rule states
 abbrev pub stated_rule : Rule → Stated
 stated_rule r = rules r.row.kind (condition r.row) r.row.target r.row.price
 
 -- what it states fits
-bytes_fit : (ps : List Literal) → All (λ (l : Literal). (l.decision ≤ 255) × (l.value ≤ 255)) ps → fitting_pairs ps ≡ true
+bytes_fit : (ps : List Literal) → AllByRecursion (λ (l : Literal). (l.decision ≤ 255) × (l.value ≤ 255)) ps → fitting_pairs ps ≡ true
 bytes_fit [] h = refl
 bytes_fit (p ∷ ps) h =
     and_from (fitting_pair p) (fitting_pairs ps)
@@ -91,11 +83,11 @@ exact_fits r h =
     let first = and_parts low range ranges.0 in
     head_fits r.kind r.target r.price first.0 first.1 ranges.1 fore.1
 
-pub stated_fits : (r : Rule) → BytePaired r → fitting (stated_rule r) ≡ true
-stated_fits r h =
+pub stated_fits : (r : Rule) → BytePaired r → IsExact r → fitting (stated_rule r) ≡ true
+stated_fits r h exact =
     let ps = condition r.row in
     let count : length ps ≡ r.row.count = omega (arith, length-take r.row.count r.row.pairs, r.few, r.full) in
     let some = le-leb 1 (length ps) (omega (arith, r.some)) in
     let few = le-leb (length ps) 4 (omega (arith, r.few)) in
     and_from (leb 1 (length ps) && leb (length ps) 4) _ (and_from (leb 1 (length ps)) (leb (length ps) 4) some few)
-    (and_from (fitting_pairs ps) _ (bytes_fit ps h) (exact_fits r.row r.exact))
+    (and_from (fitting_pairs ps) _ (bytes_fit ps h) (exact_fits r.row exact))

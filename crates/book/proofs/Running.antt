@@ -1,5 +1,5 @@
 -- Runs, one after the other.
-use Rattle.std.proofs.Common.{◌≡◌, ℕ, zero, suc, ◌+◌, List, [], ◌∷◌, replicate, sym, refl, ap, ◌∙◌, add-one}
+use Rattle.std.proofs.Common.{◌≡◌, ℕ, zero, suc, ◌+◌, replicate, sym, refl, ap, ◌∙◌, add-one}
 use Rattle.measure.specs.Meaning.{Meaning}
 use Rattle.account.specs.Accounts.{Account}
 use Rattle.account.specs.Calls.{Call, after, history, run}

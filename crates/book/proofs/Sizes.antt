@@ -1,10 +1,10 @@
 -- The text of what a planner holds is short enough to be loaded.
-use Rattle.std.proofs.Common.{◌≡◌, ℕ, ◌+◌, ◌*◌, ◌<◌, ◌≤◌, Bool, true, false, ◌&&◌, ◌||◌, eqb, leb, List, [], ◌∷◌, ◌++◌, map, length, drop, None, decimal, subst, add-mul, arith, length-append, length-take}
+use Rattle.std.proofs.Common.{◌≡◌, ℕ, ◌*◌, ◌<◌, ◌≤◌, Bool, true, false, ◌&&◌, ◌||◌, eqb, leb, List, [], ◌∷◌, ◌++◌, map, length, drop, None, decimal, subst, add-mul, arith, length-append, length-take}
 use lib.ListN.{length-map}
 use Rattle.std.proofs.lemmas.Fmt.{length-decimal-le}
 use Rattle.std.proofs.ByRecursion.{All-append, All-map, All-weaker}
 use Rattle.std.proofs.lemmas.Bool.{and_parts, leb-true}
-use Rattle.std.specs.List.{AllByRecursion as All}
+use Rattle.std.specs.List.{AllByRecursion}
 use Rattle.measure.specs.declared.price.Price.{Price}
 use Rattle.rules.specs.Compose.{blanks, in_range, is_activate, is_exact, is_free, is_price}
 use Rattle.rules.specs.Conditions.{condition}
@@ -18,7 +18,7 @@ use Rattle.rules.specs.declared.row.Row.{Row}
 use Rattle.rules.specs.declared.rule.Rule.{Rule}
 use Rattle.rules.proofs.Verdicts.{accepted_few}
 use Rattle.rendering.specs.Texts.{spaced, ended, pair_text, mark_text, head_fields, decision_line, parts_line, rule_line, book_text}
-use Rattle.book.specs.Laws.{ByteSized, BytePaired, rows_of, stated_by}
+use Rattle.book.specs.Laws.{ByteSized, BytePaired, IsExact, rows_of, stated_by}
 use Rattle.book.proofs.Fitting.{sizes_fit, rule_fits}
 use Rattle.book.proofs.Holding.{Holds, all_rules, rows_are, rules_few, rules_of}
 
@@ -27,12 +27,12 @@ abbrev pub Shorter : ℕ → List ℕ → Type 0
 Shorter n l = length l < n
 
 -- lines of fewer than n bytes make a text of at most n bytes for each
-pub ended_short : (n : ℕ) (ls : List (List ℕ)) → All (Shorter n) ls → length (ended ls) ≤ length ls * n
+pub ended_short : (n : ℕ) (ls : List (List ℕ)) → AllByRecursion (Shorter n) ls → length (ended ls) ≤ length ls * n
 ended_short n [] h = omega arith
 ended_short n (l ∷ ls) h = omega (arith, length-append l (10 ∷ ended ls), ended_short n ls h.1, h.0, add-mul 1 (length ls) n)
 
 -- so do fields
-pub spaced_short : (n : ℕ) (fs : List (List ℕ)) → All (Shorter n) fs → length (spaced fs) ≤ length fs * n
+pub spaced_short : (n : ℕ) (fs : List (List ℕ)) → AllByRecursion (Shorter n) fs → length (spaced fs) ≤ length fs * n
 spaced_short n [] h = omega arith
 spaced_short n (f ∷ fs) h = omega (arith, length-append f (spaced fs), spaced_short n fs h.1, h.0, add-mul 1 (length fs) n)
 
@@ -57,7 +57,7 @@ head_few Forbid target price = omega arith
 head_few Activate target price = omega arith
 head_few Priced target price = omega arith
 
-head_short : (k : Kind) (target : ℕ) (price : Price) → target ≤ 255 → price.tier ≤ 255 → price.cents ≤ 1000000000 → All (Shorter 11) (head_fields k target price)
+head_short : (k : Kind) (target : ℕ) (price : Price) → target ≤ 255 → price.tier ≤ 255 → price.cents ≤ 1000000000 → AllByRecursion (Shorter 11) (head_fields k target price)
 head_short Forbid target price t p c = tt
 head_short Activate target price t p c = (omega (arith, byte_short target t), tt)
 head_short Priced target price t p c = (omega (arith, byte_short price.tier p), (omega (arith, length-decimal-le 10 price.cents (omega arith) (omega arith) (omega arith)), tt))
@@ -75,35 +75,43 @@ exact_small r h =
     let (tier, cents) = and_parts (leb r.price.tier 255) (leb r.price.cents 1000000000) p in
     (leb-true r.target 255 t, leb-true r.price.tier 255 tier, leb-true r.price.cents 1000000000 cents)
 
-rule_short : (r : Rule) → BytePaired r → Shorter 68 (rule_line r.row)
+rule_short : (r : Rule) → BytePaired r → IsExact r → Shorter 68 (rule_line r.row)
 unfolding parts_line
-rule_short r fits =
+rule_short r fits exact =
     let row = r.row in
     let ps = condition row in
     let head = head_fields row.kind row.target row.price in
-    let (t, p, c) = exact_small row r.exact in
-    let all : All (Shorter 11) (head ++ map pair_text ps) = All-append (Shorter 11) head (map pair_text ps) (head_short row.kind row.target row.price t p c)
+    let (t, p, c) = exact_small row exact in
+    let all : AllByRecursion (Shorter 11) (head ++ map pair_text ps) = All-append (Shorter 11) head (map pair_text ps) (head_short row.kind row.target row.price t p c)
     (All-map (Shorter 11) pair_text ps (All-weaker (λ (l : Literal). (l.decision ≤ 255) × (l.value ≤ 255)) (λ (l : Literal). Shorter 11 (pair_text l)) pair_short ps fits)) in
     let few : length (head ++ map pair_text ps) ≤ 6 = omega (arith, length-append head (map pair_text ps), head_few row.kind row.target row.price, length-map ps pair_text, length-take row.count row.pairs, r.few) in
     omega (arith, spaced_short 11 (head ++ map pair_text ps) all)
 
+rules_short : (rs : List Rule) → AllByRecursion BytePaired rs → AllByRecursion IsExact rs → AllByRecursion (Shorter 68) (map rule_line (map (λ (r : Rule). r.row) rs))
+rules_short [] fits exact = tt
+rules_short (r ∷ rs) fits exact = (rule_short r fits.0 exact.0, rules_short rs fits.1 exact.1)
+
 -- at most 64 decisions of sizes that are bytes, and at most 768 rules of pairs that are bytes, make a text of at most 65,536 bytes
-pub stated_short : (ds : List Decision) (rs : List Rule) → length ds ≤ 64 → length rs ≤ 768 → All ByteSized ds → All BytePaired rs → length (stated_by ds rs) ≤ 65536
-stated_short ds rs few-ds few-rs sizes pairs =
+pub stated_short : (ds : List Decision) (rs : List Rule) → length ds ≤ 64 → length rs ≤ 768 → AllByRecursion ByteSized ds → AllByRecursion BytePaired rs → AllByRecursion IsExact rs → length (stated_by ds rs) ≤ 65536
+stated_short ds rs few_ds few_rs sizes pairs exact =
     let rows = map (λ (r : Rule). r.row) rs in
     let lines = map decision_line ds ++ map rule_line rows in
-    let all : All (Shorter 68) lines = All-append (Shorter 68) (map decision_line ds) (map rule_line rows) (All-map (Shorter 68) decision_line ds (All-weaker ByteSized (λ (d : Decision). Shorter 68 (decision_line d)) decision_short ds sizes))
-    (All-map (Shorter 68) rule_line rows (All-map (λ (w : Row). Shorter 68 (rule_line w)) (λ (r : Rule). r.row) rs (All-weaker BytePaired (λ (r : Rule). Shorter 68 (rule_line r.row)) rule_short rs pairs))) in
+    let all : AllByRecursion (Shorter 68) lines = All-append (Shorter 68) (map decision_line ds) (map rule_line rows) (All-map (Shorter 68) decision_line ds (All-weaker ByteSized (λ (d : Decision). Shorter 68 (decision_line d)) decision_short ds sizes))
+    (rules_short rs pairs exact) in
     let few : length lines ≤ 832 = omega (arith, length-append (map decision_line ds) (map rule_line rows), length-map ds decision_line, length-map rows rule_line, length-map rs (λ (r : Rule). r.row)) in
     omega (arith, ended_short 68 lines all)
 
 -- the pairs of all rules that are held are bytes
-pub held_fits : (ds : List Decision) (b : Book) → open_refusal ds ≡ None → (h : Holds ds b) → All BytePaired (rules_of ds b h)
+pub held_fits : (ds : List Decision) (b : Book) → open_refusal ds ≡ None → (h : Holds ds b) → AllByRecursion BytePaired (rules_of ds b h)
 held_fits ds b opens h = all_rules ds b h BytePaired (λ k r one. rule_fits ds r opens one.known)
+
+-- all of them are as new and compose make them
+pub held_exact : (ds : List Decision) (b : Book) (h : Holds ds b) → AllByRecursion IsExact (rules_of ds b h)
+held_exact ds b h = all_rules ds b h IsExact (λ k r one. one.exact)
 
 -- so the text of what is held is short
 pub held_short : (ds : List Decision) (b : Book) → open_refusal ds ≡ None → (h : Holds ds b) → length (stated_by ds (rules_of ds b h)) ≤ 65536
-held_short ds b opens h = stated_short ds (rules_of ds b h) (accepted_few ds opens) (rules_few ds b h) (sizes_fit ds opens) (held_fits ds b opens h)
+held_short ds b opens h = stated_short ds (rules_of ds b h) (accepted_few ds opens) (rules_few ds b h) (sizes_fit ds opens) (held_fits ds b opens h) (held_exact ds b h)
 
 pub book_short : (ds : List Decision) (b : Book) → open_refusal ds ≡ None → Holds ds b → length (book_text ds (rows_of b)) ≤ 65536
 book_short ds b opens h = subst (λ (rows : List Row). length (book_text ds rows) ≤ 65536) (rows_are ds b h) (held_short ds b opens h)

@@ -1,5 +1,5 @@
 -- What best reports, as the text of an outcome.
-use Rattle.std.proofs.Common.{◌≡◌, ℕ, List, [], ◌∷◌, ◌++◌, map, length, take, drop, Some, None, Option, sym, refl, ap, ◌∙◌, arith}
+use Rattle.std.proofs.Common.{◌≡◌, ℕ, List, [], map, length, take, drop, Some, None, Option, refl, ap, ◌∙◌, arith}
 use Rattle.std.specs.List.{range_with_len}
 use Rattle.std.proofs.lemmas.List.FromFn.{length-map-range_with_len}
 use Rattle.std.proofs.lemmas.List.{take_at}
@@ -9,7 +9,7 @@ use Rattle.measure.specs.declared.pair.Pair.{Pair}
 use Rattle.measure.specs.declared.tier.Tier.{Tier}
 use Rattle.rules.specs.declared.refusal.Refusal.{Refusal}
 use Rattle.account.specs.Accounts.{Account, Best}
-use Rattle.account.specs.Calls.{Answer, answer, answer_if, best, refusal, report, reported, written}
+use Rattle.account.specs.Calls.{answer, answer_if, best, refusal, report, reported, written}
 use Rattle.account.specs.declared.state.State.{State}
 use Rattle.rendering.specs.Texts.{outcome_text}
 use Rattle.book.specs.Outcomes.{account_text, outcome_of}

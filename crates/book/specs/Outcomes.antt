@@ -1,5 +1,5 @@
 -- The text of what a planner has come to, and of a whole plan of a book.
-use Rattle.std.specs.Prelude.{ℕ, List, [], ◌∷◌, map, length, replicate, Some, None, Ok, Err, Option, Result}
+use Rattle.std.specs.Prelude.{ℕ, List, [], map, length, replicate, Some, None, Ok, Err, Option, Result}
 use Rattle.std.specs.List.{range_with_len}
 use Rattle.measure.specs.Meaning.{Meaning}
 use Rattle.measure.specs.declared.cents.Cents.{Cents}

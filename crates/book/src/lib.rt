@@ -2,12 +2,14 @@
 #![tactic(auto)]
 
 mod carrying;
+mod exact;
 mod loading;
 mod outcome;
 mod planning;
 mod text;
 mod texts;
 
+pub use exact::made_rules_are_exact;
 pub use loading::load;
 pub use outcome::write_outcome;
 pub use planning::plan_book;

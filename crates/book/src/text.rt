@@ -18,8 +18,8 @@ pub trait Text {
 /// Writes the text of a value, and answers the byte count; later bytes stay. Refuses a buffer that is too short, which
 /// then stays as it was.
 pub fn fill<T: Text>(item: &T, buffer: &mut [u8]) -> Result<usize, Refusal>
-    ensures value { result ≡ counted (text item.now) buffer.old }
-    ensures after { buffer.new ≡ filled (text item.now) buffer.old }
+    ensures value { result ≡ counted (T.text item.now) buffer.old }
+    ensures after { buffer.new ≡ filled (T.text item.now) buffer.old }
 {
     let mut measure = Writer::measuring();
     item.put(&mut measure, buffer);

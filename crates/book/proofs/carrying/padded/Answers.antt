@@ -8,5 +8,5 @@ use Rattle.book.proofs.carrying.padded.Goals as goal
 pub returns : goal.returns
 returns c =
     let n = length c.args.decisions.now in
-    ap₂ (λ (xs ys : List Decision). xs ++ ys) c.copy-from-slice.ensures.after
+    ap₂ (λ (xs ys : List Decision). xs ++ ys) c.copy_from_slice.ensures.after
     (ap (λ (k : ℕ). drop k (replicate 65 absent)) (sub-zero n) ∙ drop-replicate n 65 absent)

@@ -1,4 +1,4 @@
-use Rattle.std.proofs.Common.{◌≡◌, List, length, take, replicate, ap, ◌∙◌}
+use Rattle.std.proofs.Common.{List, length, take, replicate, ap, ◌∙◌}
 use Rattle.measure.specs.Supplied.{cents, pair_of, tier}
 use Rattle.planner.specs.Planners.{account_of}
 use Rattle.rendering.specs.Texts.{outcome_text}

@@ -12,6 +12,6 @@ returns g c =
     let b = (account_of c.args.self.now).book in
     let text = λ (rs : List Row). ended (map rule_line rs) in
     reworded (book_whole b.decisions b.forbids b.activates b.prices)
-    (joined (reworded (ap (λ (ds : List Decision). ended (map decision_line ds)) c.decisions.ensures.value) c.put-decisions.ensures)
-    (joined (reworded (ap text c.rules.ensures.value) c.put-rules.ensures)
-    (joined (reworded (ap text c.rules-2.ensures.value) c.put-rules-2.ensures) (reworded (ap text c.rules-3.ensures.value) c.put-rules-3.ensures))))
+    (joined (reworded (ap (λ (ds : List Decision). ended (map decision_line ds)) c.decisions.ensures.value) c.put_decisions.ensures)
+    (joined (reworded (ap text c.rules.ensures.value) c.put_rules.ensures)
+    (joined (reworded (ap text c.rules-2.ensures.value) c.put_rules-2.ensures) (reworded (ap text c.rules-3.ensures.value) c.put_rules-3.ensures))))

@@ -1,0 +1,43 @@
+-- What compose makes of parts that it accepts is exact, and so is a new rule.
+use Rattle.std.proofs.Common.{◌≡◌, ℕ, zero, suc, ◌-◌, ◌≤◌, true, false, not, ◌&&◌, ltb, leb, List, ◌++◌, length, drop, replicate, None, refl, ap, ◌∙◌}
+use lib.Seq.{drop-append_seam}
+use Rattle.std.proofs.lemmas.Bool.{le-leb, ltb-false}
+use Rattle.measure.specs.declared.price.Price.{Price}
+use Rattle.rules.specs.Compose.{ascends, compose_refusal, composed, blank, blanks, is_exact, is_price}
+use Rattle.rules.specs.Refusals.{when, or_else}
+use Rattle.rules.specs.declared.literal.Literal.{Literal}
+use Rattle.rules.specs.declared.refusal.Refusal.TheVariants.{PairCount, NotAscending, CentsTooLarge}
+use Rattle.rules.specs.declared.row.Kind.{Kind}
+use Rattle.rules.specs.declared.row.Kind.TheVariants.{Forbid, Activate, Price as Priced}
+use Rattle.rules.proofs.Grounds.{when_none, or_else_none}
+use Rattle.book.specs.Laws.{ComposedIsExact}
+
+-- the cents of a price rule that is accepted are in range
+accepted_cents : (k : Kind) (ps : List Literal) (price : Price) → compose_refusal k ps price ≡ None → (is_price k && ltb 1000000000 price.cents) ≡ false
+accepted_cents k ps price h =
+    let cents = when (is_price k && ltb 1000000000 price.cents) CentsTooLarge in
+    let order = when (not (ascends ps)) NotAscending in
+    let count = when (not (leb 1 (length ps) && leb (length ps) 4)) PairCount in
+    when_none (is_price k && ltb 1000000000 price.cents) CentsTooLarge (or_else_none order cents (or_else_none count (or_else order cents) h).1).1
+
+blank_copies : (n : ℕ) → blanks (replicate n blank) ≡ true
+blank_copies zero = refl
+blank_copies (suc n) = blank_copies n
+
+-- nothing stands behind the pairs of the row
+composed_blank : (ps : List Literal) → blanks (drop (length ps) (ps ++ replicate (4 - length ps) blank)) ≡ true
+composed_blank ps = ap blanks (drop-append_seam ps (replicate (4 - length ps) blank)) ∙ blank_copies (4 - length ps)
+
+in_range_exact : (k : Kind) (ps : List Literal) (t : ℕ) (price : Price) → t ≤ 255 → price.tier ≤ 255 → (is_price k && ltb 1000000000 price.cents) ≡ false → is_exact (composed k ps t price) ≡ true
+unfolding is_exact
+in_range_exact Forbid ps t price low tier cents = composed_blank ps
+in_range_exact Activate ps t price low tier cents = rw (le-leb t 255 low) (composed_blank ps)
+in_range_exact Priced ps t price low tier cents =
+    rw (le-leb price.tier 255 tier, le-leb price.cents 1000000000 (ltb-false 1000000000 price.cents cents)) (composed_blank ps)
+
+pub composed_exact : (k : Kind) (ps : List Literal) (t : ℕ) (price : Price) → t ≤ 255 → price.tier ≤ 255 → compose_refusal k ps price ≡ None → is_exact (composed k ps t price) ≡ true
+composed_exact k ps t price low tier h = in_range_exact k ps t price low tier (accepted_cents k ps price h)
+
+pub composed_is_exact : ComposedIsExact
+unfolding is_exact
+composed_is_exact = (refl, composed_exact)
