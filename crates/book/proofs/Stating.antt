@@ -19,7 +19,8 @@ use Rattle.rendering.specs.Texts.{decision_line, ended, rule_line}
 use Rattle.statements.specs.Lines.{TextLine, lines_of}
 use Rattle.statements.specs.Statements.{Stated, decides, fault, rules}
 use Rattle.grammar.specs.Grammar.{all_ended}
-use Rattle.grammar.proofs.Forms.{err_ok, or_else_none}
+use Rattle.rules.proofs.Grounds.{or_else_none}
+use Rattle.grammar.proofs.Forms.{err_ok}
 use Rattle.grammar.proofs.Texts.{text_of_lines}
 use Rattle.book.specs.Laws.{Accepted, IsExact, ReadAsStated}
 use Rattle.book.specs.Loads.{load_lines, loaded}

@@ -10,7 +10,6 @@ use Rattle.std.proofs.lemmas.Bool.{and_from, and_parts, cases_lt, le-leb, leb-tr
 use Rattle.reading.specs.Numbers.{number_up_to}
 use Rattle.reading.specs.Pieces.{before, is_nil}
 use Rattle.reading.proofs.Numerals.{decimal_from_read, none_if_empty, reads_decimal}
-use Rattle.rules.specs.Refusals.{or_else, when}
 use Rattle.rules.specs.declared.literal.Literal.{Literal}
 use Rattle.rendering.specs.Texts.{mark_text, pair_text}
 use Rattle.statements.specs.Forms.{both, mark_of, pair_of}
@@ -90,17 +89,9 @@ module _ {X : Type 0} where
   cond_none true x o e = absurd (none_some x (sym e))
   cond_none false x o e = (refl, e)
 
-  pub when_none : (t : Bool) (x : X) → when t x ≡ None → t ≡ false
-  when_none true x e = absurd (none_some x (sym e))
-  when_none false x e = refl
-
   pub mapped_none : {Y : Type 0} (f : X → Y) (o : Option X) → option_map f o ≡ None → o ≡ None
   mapped_none f None e = refl
   mapped_none f (Some x) e = let z : ◌≡◌ {A = ℕ} 0 1 = cc in absurd (omega arith)
-
-  pub or_else_none : (o p : Option X) → or_else o p ≡ None → (o ≡ None) × (p ≡ None)
-  or_else_none None p e = (refl, e)
-  or_else_none (Some x) p e = absurd (none_some x (sym e))
 
 -- a field that is read, and what follows
 pub then_formed : {X Y : Type 0} (n c : ℕ) (o : Option X) (f : X → Result Y Fault) (y : Y) → then (formed n c o) f ≡ Ok y → (x : X) × ((o ≡ Some x) × (f x ≡ Ok y))

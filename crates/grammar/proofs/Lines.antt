@@ -25,7 +25,8 @@ use Rattle.statements.specs.declared.line.LineKind.{LineKind}
 use Rattle.statements.specs.declared.line.LineKind.TheVariants.{Decision as D, Forbid as F, Activate as A, Price as P}
 use Rattle.grammar.specs.Grammar.{fitting, fitting_head, fitting_pairs, is_decided, line_text}
 use Rattle.grammar.specs.Laws.{ReadsOnlyText, TextIsRead}
-use Rattle.grammar.proofs.Forms.{cond_none, cond_some, decimal_only, decimal_read, mapped_none, mark_only, mark_read, none_some, err_ok, Solid, solid_decimal, solid_mark, solid_pairs, or_else_none, pairs_only, pairs_read, then_formed, then_ok, unless_ok, when_none}
+use Rattle.rules.proofs.Grounds.{when_none, or_else_none}
+use Rattle.grammar.proofs.Forms.{cond_none, cond_some, decimal_only, decimal_read, mapped_none, mark_only, mark_read, none_some, err_ok, Solid, solid_decimal, solid_mark, solid_pairs, pairs_only, pairs_read, then_formed, then_ok, unless_ok}
 use Rattle.grammar.proofs.Joins.{Lacks, cut_spaced, spaced_pieces}
 
 -- the byte that a line of a kind begins with

@@ -2,7 +2,7 @@
 use Rattle.std.specs.Prelude.{◌≡◌, Bool, true, false, not, ◌&&◌, ◌||◌, ◌⊎◌, refl}
 use Rattle.std.proofs.Common.{inl, inr}
 use Rattle.std.proofs.Common.{subst}
-use Rattle.std.proofs.lemmas.Bool.{false≢true, and_parts}
+use Rattle.std.proofs.lemmas.Bool.{false≢true, and_from, and_parts}
 
 -- the first sides decide, and where they are equal the second
 abbrev pub sides : Bool → Bool → Bool → Bool
@@ -25,10 +25,6 @@ sides_least p false s h k = refl
 sides_least true true s h k = k
 sides_least false true s h k = h
 
-both_hold : (w r : Bool) → w ≡ true → r ≡ true → (w && r) ≡ true
-both_hold true r h k = k
-both_hold false r h k = h
-
 -- three costs: p and q compare the first sides of the first two, u and v of the last two, w and x of the outer two; s, t and r the second sides
 pub sides_transitive : (p q s u v t w x r : Bool) → (p ≡ true) ⊎ (q ≡ true) → (p ≡ true → u ≡ true → w ≡ true) → (x ≡ true → p ≡ true → v ≡ true)
     → (u ≡ true → x ≡ true → q ≡ true) → (s ≡ true → t ≡ true → r ≡ true) → sides p q s ≡ true → sides u v t ≡ true → sides w x r ≡ true
@@ -36,7 +32,7 @@ sides_transitive p q s u v t w false r total outer left right second h k = refl
 sides_transitive p true s u v t w true r total outer left right second h k =
     let (first, later) = and_parts p s h in
     let (next, last) = and_parts u t (subst (λ (b : Bool). sides u b t ≡ true) (left refl first) k) in
-    both_hold w r (outer first next) (second later last)
+    and_from w r (outer first next) (second later last)
 sides_transitive true false s u v t w true r total outer left right second h k =
     let (next, last) = and_parts u t (subst (λ (b : Bool). sides u b t ≡ true) (left refl refl) k) in
     absurd (false≢true (right next refl))
