@@ -4,7 +4,7 @@ ghost use Rattle.sets.specs.Members.{members};
 ghost use Rattle.sets.specs.Searches.{some_below};
 
 /// A set of the decisions 0 to 63: decision `d` is in it where bit `d` is set.
-#[derive(Clone, Copy)]
+#[derive(Clone, Copy, Debug, Default, PartialEq, Eq)]
 pub struct DecisionSet {
     pub bits: u64,
 }

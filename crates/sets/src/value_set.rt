@@ -4,7 +4,7 @@ ghost use Rattle.sets.specs.Members.{values};
 ghost use Rattle.sets.specs.Searches.{smallest_outside, count_outside};
 
 /// A set of the values 1 to 16: value `v` is in it where bit `v - 1` is set.
-#[derive(Clone, Copy)]
+#[derive(Clone, Copy, Debug, Default, PartialEq, Eq)]
 pub struct ValueSet {
     pub bits: u16,
 }
