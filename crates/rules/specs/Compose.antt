@@ -1,5 +1,6 @@
 -- The shape of a rule, and what compose makes of its arguments.
 use Rattle.std.specs.Prelude.{ℕ, ◌+◌, ◌-◌, Bool, true, false, cond, not, ◌&&◌, ◌||◌, List, [], ◌∷◌, ◌++◌, length, drop, replicate, Option, ◌==◌, nat_le, nat_lt}
+use Rattle.std.specs.List.{list_all}
 use Rattle.measure.specs.declared.price.Price.{Price}
 use Rattle.rules.specs.Refusals.{when, or_else}
 use Rattle.rules.specs.declared.literal.Literal.{Literal}
@@ -71,8 +72,7 @@ is_free p = p.tier == 0 && p.cents == 0
 
 -- every one of these places is blank
 abbrev pub blanks : List Literal → Bool
-blanks [] = true
-blanks (l ∷ ls) = l.decision == 0 && l.value == 0 && blanks ls
+blanks ls = list_all (λ l. l.decision == 0 && l.value == 0) ls
 
 -- a row states a target and a price in range, those only that its kind has, and nothing behind its pairs
 unfoldable pub is_exact : Row → Bool

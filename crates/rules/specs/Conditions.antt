@@ -1,5 +1,6 @@
 -- Plans, pairs and conditions.
 use Rattle.std.specs.Prelude.{ℕ, Bool, true, false, cond, ◌&&◌, ◌||◌, List, [], ◌∷◌, take, ◌==◌, nat_lt, slice_index}
+use Rattle.std.specs.List.{list_all, list_any}
 use Rattle.rules.specs.declared.literal.Literal.{Literal}
 use Rattle.rules.specs.declared.row.Row.{Row}
 
@@ -21,13 +22,11 @@ has p l = nat_lt 0 l.value && p l.decision == l.value
 
 -- a condition, which is a list of pairs, is met by a plan that has all of them
 abbrev pub meets : Plan → List Literal → Bool
-meets p [] = true
-meets p (l ∷ ls) = has p l && meets p ls
+meets p ls = list_all (has p) ls
 
 -- a condition names a decision that one of its pairs has
 abbrev pub names : List Literal → ℕ → Bool
-names [] d = false
-names (l ∷ ls) d = d == l.decision || names ls d
+names ls d = list_any (λ l. d == l.decision) ls
 
 -- the condition of a row is its first `count` pairs
 abbrev pub condition : Row → List Literal

@@ -1,6 +1,6 @@
 -- What judge answers of decisions, rows and a plan.
 use Rattle.std.specs.Prelude.{◌≡◌, ℕ, ◌<◌, ◌≤◌, Bool, true, false, not, ◌&&◌, ◌||◌, List, [], ◌∷◌, length, take, Some, None, Ok, Err, filter, Option, Result, nat_le, nat_lt, slice_index_or}
-use Rattle.std.specs.List.{AllByRecursion}
+use Rattle.std.specs.List.{AllByRecursion, list_all}
 use Rattle.measure.specs.Meaning.{Meaning}
 use Rattle.rules.specs.Compose.{is_forbid, is_activate, is_price}
 use Rattle.rules.specs.Conditions.{Plan, plan_of, met, condition}
@@ -20,8 +20,7 @@ has_size d = nat_le 1 d.size && nat_le d.size 16
 
 -- every decision has 1 to 16 values
 abbrev pub sized : List Decision → Bool
-sized [] = true
-sized (d ∷ ds) = has_size d && sized ds
+sized ds = list_all has_size ds
 
 -- why decisions are refused
 abbrev pub open_refusal : List Decision → Option Refusal
@@ -29,8 +28,7 @@ open_refusal ds = or_else (when (nat_lt 64 (length ds)) TooManyDecisions) (when 
 
 -- every pair's decision is one of the first n
 abbrev pub known_decisions : ℕ → List Literal → Bool
-known_decisions n [] = true
-known_decisions n (l ∷ ls) = nat_lt l.decision n && known_decisions n ls
+known_decisions n ls = list_all (λ l. nat_lt l.decision n) ls
 
 -- a pair's value is one of its decision's
 abbrev pub known_value : List Decision → Literal → Bool
@@ -38,8 +36,7 @@ known_value ds l = nat_le 1 l.value && nat_le l.value (size_at ds l.decision)
 
 -- every pair's value is one of its decision's
 abbrev pub known_values : List Decision → List Literal → Bool
-known_values ds [] = true
-known_values ds (l ∷ ls) = known_value ds l && known_values ds ls
+known_values ds ls = list_all (known_value ds) ls
 
 -- why a row is refused beside these decisions: first the decisions of pairs and target, then the values
 abbrev pub row_refusal : List Decision → Row → Option Refusal

@@ -1,7 +1,7 @@
 -- Books, active decisions, lawful plans and their cost.
 use Rattle.std.specs.Prelude.{◌≡◌, ℕ, zero, suc, ◌<◌, ◌≤◌, Bool, true, false, cond, not, ◌&&◌, ◌||◌, List, [], ◌∷◌, length, ◌==◌, nat_le, nat_lt, slice_index_or}
 use Rattle.std.specs.Bool.{beq}
-use Rattle.std.specs.List.{AllByRecursion}
+use Rattle.std.specs.List.{AllByRecursion, list_all, list_any}
 use Rattle.measure.specs.Meaning.{Meaning}
 use Rattle.rules.specs.Conditions.{Plan, met}
 use Rattle.rules.specs.declared.decision.Decision.{Decision}
@@ -57,8 +57,7 @@ cost m (r ∷ rs) p = cond (met p r) (m.joins (m.reads r.price) (cost m rs p)) (
 
 -- whether some activate rule with this target is met by a plan
 abbrev pub enables : List Row → Plan → ℕ → Bool
-enables [] p d = false
-enables (r ∷ rs) p d = (d == r.target && met p r) || enables rs p d
+enables rs p d = list_any (λ r. d == r.target && met p r) rs
 
 -- one round: a set, with the targets that its choices enable
 abbrev pub grown : List Row → Plan → Set → Set
@@ -80,8 +79,7 @@ all_below t (suc n) = t n && all_below t n
 
 -- whether a plan meets none of these rows
 abbrev pub meets_none : List Row → Plan → Bool
-meets_none [] p = true
-meets_none (r ∷ rs) p = not (met p r) && meets_none rs p
+meets_none rs p = list_all (λ r. not (met p r)) rs
 
 -- whether a plan chooses a decision just when it is active, and in its range
 abbrev pub fits : Book → Plan → Set

@@ -23,12 +23,7 @@ fn is_sized(decision: &Decision) -> bool
 fn all_sized(decisions: &[Decision]) -> bool
     ensures { result ≡ sized decisions.now }
 {
-    for decision in decisions {
-        if !is_sized(decision) {
-            return false;
-        }
-    }
-    true
+    decisions.iter().all(is_sized)
 }
 
 /// Refuses more than 64 decisions, then a size outside 1 to 16.
@@ -48,12 +43,7 @@ pub fn check_decisions(decisions: &[Decision]) -> Result<(), Refusal>
 fn size_of(decisions: &[Decision], decision: u8) -> u8
     ensures { result ≡ size_at decisions.now decision }
 {
-    let at = decision as usize;
-    if at < decisions.len() {
-        decisions[at].size
-    } else {
-        0
-    }
+    decisions.get(decision as usize).map_or(0, |decision| decision.size)
 }
 
 /// Whether a pair's value is one of its decision's.
@@ -68,24 +58,14 @@ fn value_known(pair: &Literal, decisions: &[Decision]) -> bool
 fn decisions_known(pairs: &[Literal], count: usize) -> bool
     ensures { result ≡ known_decisions count pairs.now }
 {
-    for pair in pairs {
-        if pair.decision as usize >= count {
-            return false;
-        }
-    }
-    true
+    pairs.iter().all(|pair| (pair.decision as usize) < count)
 }
 
 /// Whether every pair's value is one of its decision's.
 fn values_known(pairs: &[Literal], decisions: &[Decision]) -> bool
     ensures { result ≡ known_values decisions.now pairs.now }
 {
-    for pair in pairs {
-        if !value_known(pair, decisions) {
-            return false;
-        }
-    }
-    true
+    pairs.iter().all(|pair| value_known(pair, decisions))
 }
 
 /// Refuses a row that names an unknown decision in a pair or as the target of an activate rule, then an unknown value.

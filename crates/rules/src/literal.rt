@@ -22,6 +22,5 @@ impl Literal {
 pub fn value_of(plan: &[u8], decision: u8) -> u8
     ensures { result ≡ from_bytes plan.now decision }
 {
-    let at = decision as usize;
-    if at < plan.len() { plan[at] } else { 0 }
+    plan.get(decision as usize).copied().unwrap_or(0)
 }

@@ -64,12 +64,6 @@ impl Row {
     pub fn met(&self, plan: &[u8]) -> bool
         ensures { result ≡ met (from_bytes plan.now) self.now }
     {
-        let pairs = self.condition();
-        for pair in pairs {
-            if !pair.held_by(plan) {
-                return false;
-            }
-        }
-        true
+        self.condition().iter().all(|pair| pair.held_by(plan))
     }
 }
