@@ -6,6 +6,8 @@ pub mod Grounds
 pub mod Composing
 pub mod Recomposing
 pub mod Tables
-pub mod Reaching
+pub mod Rounds
+pub mod Ascending
+pub mod Misfits
 pub mod ByKind
 pub mod Verdicts

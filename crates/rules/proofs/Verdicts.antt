@@ -10,17 +10,16 @@ use Rattle.rules.specs.Conditions.{Plan, met, condition, from_bytes, plan_of}
 use Rattle.rules.specs.Judging.{open_refusal, row_refusal, rows_refusal, judge_refusal, known_decisions, known_values, sized, book_of, Fits, FitsBelow, FirstMet, Breaks}
 use Rattle.rules.specs.Plans.{Book, Lawful, active, size_at}
 use Rattle.rules.specs.Refusals.{when, as_result}
-use Rattle.rules.specs.Searches.{misfit, misfit_at, FirstMisfit, place_from, TargetsBelow}
+use Rattle.rules.specs.Searches.{misfit, misfit_at, FirstMisfit, place_from}
 use Rattle.rules.specs.declared.decision.Decision.{Decision}
 use Rattle.rules.specs.declared.refusal.Refusal.TheVariants.{TooManyDecisions, SizeOutOfRange, UnknownDecision, UnknownValue}
 use Rattle.rules.specs.declared.row.Row.{Row}
 use Rattle.rules.specs.declared.verdict.Breach.{Breach}
 use Rattle.rules.specs.declared.verdict.Breach.TheVariants.{NotActive, NotChosen, OutOfRange, Forbidden}
 use Rattle.rules.proofs.Activity.{Targets, active_sound, active_complete}
-use Rattle.rules.proofs.ByKind.{forbids}
+use Rattle.rules.proofs.ByKind.{activates, forbids}
 use Rattle.rules.proofs.Grounds.{when_none, or_else_none, accepted_none}
 use Rattle.rules.proofs.Lawfulness.{lawful_from_fits}
-use Rattle.rules.proofs.Reaching.{activates}
 
 -- accepted decisions are at most 64
 pub accepted_few : (ds : List Decision) → open_refusal ds ≡ None → length ds ≤ 64
@@ -34,20 +33,16 @@ row_target ds r h a =
     let known = (and_parts (known_decisions (length ds) (condition r)) (not (is_activate r.kind) || ltb r.target (length ds)) (not-false tests (when_none (not tests) UnknownDecision first))).1 in
     ltb-true r.target (length ds) (subst (λ (b : Bool). (not b || ltb r.target (length ds)) ≡ true) a known)
 
-pub targets_below : (ds : List Decision) (n : ℕ) (rs : List Row) → length ds ≤ n → rows_refusal ds rs ≡ None → TargetsBelow n rs
-targets_below ds n [] few h = tt
-targets_below ds n (r ∷ rs) few h =
+-- the targets of accepted activate rows are known
+targets_known : (ds : List Decision) (rs : List Row) → rows_refusal ds rs ≡ None → Targets (length ds) (activates rs)
+targets_known ds [] h = tt
+targets_known ds (r ∷ rs) h =
     let (here, later) = or_else_none (row_refusal ds r) (rows_refusal ds rs) h in
-    ((λ a. omega (arith, row_target ds r here a)), targets_below ds n rs few later)
-
--- the targets of the activate rows are known
-pub targets_kept : (n : ℕ) (rs : List Row) → TargetsBelow n rs → Targets n (activates rs)
-targets_kept n [] h = tt
-targets_kept n (r ∷ rs) h = go (is_activate r.kind) refl (targets_kept n rs h.1)
+    go (is_activate r.kind) refl here (targets_known ds rs later)
   where
-    go : (b : Bool) → is_activate r.kind ≡ b → Targets n (activates rs) → Targets n (cond b (r ∷ activates rs) (activates rs))
-    go true e later = (h.0 e, later)
-    go false e later = later
+    go : (b : Bool) → is_activate r.kind ≡ b → row_refusal ds r ≡ None → Targets (length ds) (activates rs) → Targets (length ds) (cond b (r ∷ activates rs) (activates rs))
+    go true e here later = (row_target ds r here e, later)
+    go false e here later = later
 
 -- a decision that is no misfit
 misfit_none : (d size v : ℕ) (a : Bool) → misfit d size a v ≡ None → (0 < v → a ≡ true) × (a ≡ true → 0 < v) × (v ≤ size)
@@ -144,7 +139,7 @@ plan_part n bytes = fun_ext (λ (d : ℕ). ap (λ (k : ℕ). get_or (take k byte
 -- the breach that judging finds, or that the plan is lawful
 module _ (ds : List Decision) (rs : List Row) (p : Plan) (accepted : open_refusal ds ≡ None) (known : rows_refusal ds rs ≡ None) where
   targets : Targets (length ds) (activates rs)
-  targets = targets_kept (length ds) rs (targets_below ds (length ds) rs (omega arith) known)
+  targets = targets_known ds rs known
 
   pub found_misfit : (x : Breach) → FirstMisfit ds (active (book_of ds rs) p) p (length ds) (Err x) → Breaks (book_of ds rs) p x
   found_misfit x h = misfit_breaks (book_of ds rs) p targets (length ds) x h

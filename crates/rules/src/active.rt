@@ -1,99 +1,78 @@
 //! The active decisions of a plan.
-ghost use Rattle.std.specs.Prelude.{◌≡◌, ◌<◌, ◌≤◌, ◌&&◌, length};
-ghost use Rattle.rules.specs.Compose.{is_activate};
+ghost use Rattle.std.specs.Prelude.{◌≡◌, ℕ, ◌<◌, ◌≤◌, ◌&&◌, length, filter};
 ghost use Rattle.rules.specs.Conditions.{from_bytes, met};
-ghost use Rattle.rules.specs.Plans.{active, on_at, within};
-ghost use Rattle.rules.specs.Judging.{book_of};
-ghost use Rattle.rules.specs.Searches.{from_flags, TargetsBelow, reached};
+ghost use Rattle.rules.specs.Plans.{enables, on_at, rounds, within};
+ghost use Rattle.sets.specs.Members.{members};
 
-use crate::literal::value_of;
-use crate::{Decision, Row};
-
-/// A flag for each decision that a book can have.
-pub type Flags = [bool; 64];
-
-/// Whether a decision is marked on.
-fn is_on(decisions: &[Decision], decision: u8) -> bool
-    ensures { result ≡ on_at decisions.now decision }
-{
-    let at = decision as usize;
-    if at < decisions.len() {
-        decisions[at].on
-    } else {
-        false
-    }
-}
+use crate::{Counting, Decision, Row, value_of};
+use sets::DecisionSet;
 
 /// The decisions that are marked on.
-fn marked(decisions: &[Decision]) -> Flags
+fn marked(decisions: &[Decision]) -> DecisionSet
     requires { length decisions.now ≤ 64 }
-    ensures long { length result ≡ 64 }
-    ensures value { from_flags result ≡ on_at decisions.now }
+    ensures { members result ≡ on_at decisions.now }
 {
-    let mut flags = [false; 64];
-    for i in 0..64u8 {
-        flags[i as usize] = is_on(decisions, i);
+    let mut set = DecisionSet::empty();
+    for (number, decision) in decisions.iter().enumerate() {
+        if decision.on {
+            set = set.with(number as u8);
+        }
     }
-    flags
+    set
 }
 
-/// The plan's choice for a decision if it is flagged, else 0.
-fn choice(plan: &[u8], flags: &Flags, decision: u8) -> u8
-    requires within { decision < 64 }
-    requires long { length flags.now ≡ 64 }
-    ensures { result ≡ within (from_flags flags.now) (from_bytes plan.now) decision }
+/// The plan's choice for a decision if it is in a set, else 0.
+fn choice(plan: &[u8], set: DecisionSet, decision: u8) -> u8
+    ensures { result ≡ within (members set) (from_bytes plan.now) decision }
 {
-    if flags[decision as usize] {
+    if set.has(decision) {
         value_of(plan, decision)
     } else {
         0
     }
 }
 
-/// The plan's choices for the flagged decisions.
-fn choices(plan: &[u8], flags: &Flags) -> [u8; 64]
-    requires { length flags.now ≡ 64 }
-    ensures { from_bytes result ≡ within (from_flags flags.now) (from_bytes plan.now) }
+/// The plan's choices for the decisions of a set.
+fn choices(plan: &[u8], set: DecisionSet) -> [u8; 64]
+    ensures { from_bytes result ≡ within (members set) (from_bytes plan.now) }
 {
     let mut chosen = [0; 64];
     for i in 0..64u8 {
-        chosen[i as usize] = choice(plan, flags, i);
+        chosen[i as usize] = choice(plan, set, i);
     }
     chosen
 }
 
-/// Whether a row is an activate rule that these choices meet.
-fn fires(row: &Row, choices: &[u8]) -> bool
-    ensures { result ≡ (is_activate row.now.kind && met (from_bytes choices.now) row.now) }
+/// Whether a row counts, and a plan meets it.
+fn fires<C: Counting>(row: &Row, plan: &[u8]) -> bool
+    ensures { result ≡ (C.counted row.now && met (from_bytes plan.now) row.now) }
 {
-    row.kind.is_activate() && row.met(choices)
+    C::counts(row) && row.met(plan)
 }
 
-/// Flags the targets of the activate rules that these choices meet.
-fn reach(rows: &[Row], choices: &[u8], flags: &mut Flags)
-    requires known { TargetsBelow 64 rows.now }
-    requires long { length flags.old ≡ 64 }
-    ensures long { length flags.new ≡ 64 }
-    ensures after { from_flags flags.new ≡ reached rows.now (from_bytes choices.now) (from_flags flags.old) }
+/// The targets, below 64, of the rows that count and that a plan meets.
+pub fn enabled<C: Counting>(rows: &[Row], plan: &[u8]) -> DecisionSet
+    ensures { (d : ℕ) → d < 64 → members result d ≡ enables (filter C.counted rows.now) (from_bytes plan.now) d }
 {
+    let mut targets = DecisionSet::empty();
     for row in rows {
-        if fires(row, choices) {
-            flags[row.target as usize] = true;
+        if fires::<C>(row, plan) {
+            targets = targets.with(row.target);
         }
     }
+    targets
 }
 
-/// The active decisions: those marked on, and in as many rounds as there are decisions what their choices reach.
-pub fn active_decisions(decisions: &[Decision], rows: &[Row], plan: &[u8]) -> Flags
+/// The active decisions: those marked on, and in as many rounds as there are decisions what their choices enable.
+pub fn active_decisions<C: Counting>(decisions: &[Decision], rows: &[Row], plan: &[u8]) -> DecisionSet
     requires few { length decisions.now ≤ 64 }
-    requires known { TargetsBelow 64 rows.now }
-    ensures long { length result ≡ 64 }
-    ensures value { from_flags result ≡ active (book_of decisions.now rows.now) (from_bytes plan.now) }
+    requires short { length plan.now ≤ 64 }
+    ensures { (d : ℕ) → d < 64 → members result d ≡ rounds (length decisions.now) (filter C.counted rows.now) (from_bytes plan.now) (on_at decisions.now) d }
 {
-    let mut flags = marked(decisions);
+    let mut active = marked(decisions);
     for _ in 0..decisions.len() {
-        let chosen = choices(plan, &flags);
-        reach(rows, &chosen, &mut flags);
+        let chosen = choices(plan, active);
+        active = active.union(enabled::<C>(rows, &chosen));
     }
-    flags
+    active
 }

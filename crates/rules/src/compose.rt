@@ -13,15 +13,7 @@ const MOST_CENTS: u32 = 1_000_000_000;
 fn ascend(pairs: &[Literal]) -> bool
     ensures { result ≡ ascends pairs.now }
 {
-    let mut least = 0;
-    for pair in pairs {
-        let decision = pair.decision as u16;
-        if decision < least {
-            return false;
-        }
-        least = decision + 1;
-    }
-    true
+    pairs.is_sorted_by(|pair, next| pair.decision < next.decision)
 }
 
 /// Refuses parts that make no rule.

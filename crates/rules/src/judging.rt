@@ -1,60 +1,22 @@
 //! The judging of a plan by decisions and rules.
-ghost use Rattle.std.specs.Prelude.{◌≡◌, ◌≤◌, ◌&&◌, length, None, filter};
+ghost use Rattle.std.specs.Prelude.{◌≡◌, ◌&&◌, length, None, filter, fold, position};
 ghost use Rattle.rules.specs.Compose.{is_forbid, is_price};
 ghost use Rattle.rules.specs.Conditions.{from_bytes, met};
 ghost use Rattle.rules.specs.Judging.{Answered, Judged, book_of, open_refusal, rows_refusal};
 ghost use Rattle.rules.specs.Plans.{cost};
-ghost use Rattle.rules.specs.Refusals.{as_result};
-ghost use Rattle.rules.specs.Searches.{FirstMisfit, from_flags, misfit, place_from};
+ghost use Rattle.rules.specs.Searches.{place_from};
 
-use crate::active::{Flags, active_decisions};
 use crate::checks::{check_decisions, check_rows};
-use crate::{Breach, Decision, Refusal, Row, Verdict};
+use crate::{ActivateKind, Breach, Decision, Refusal, Row, Verdict, check_choices};
 use measure::Measure;
-
-/// How a plan that gives a decision this value mistreats it.
-fn check_choice(number: u8, size: u8, active: bool, value: u8) -> Result<(), Breach>
-    ensures { result ≡ as_result (misfit number size active value) }
-{
-    if !active && value > 0 {
-        return Err(Breach::NotActive(number));
-    }
-    if active && value == 0 {
-        return Err(Breach::NotChosen(number));
-    }
-    if active && value > size {
-        return Err(Breach::OutOfRange(number));
-    }
-    Ok(())
-}
-
-/// Whether a plan chooses exactly the active decisions, each in its range; else how it mistreats the first that it does.
-fn check_choices(decisions: &[Decision], active: &Flags, plan: &[u8]) -> Result<(), Breach>
-    requires few { length decisions.now ≤ 64 }
-    requires long { length active.now ≡ 64 }
-    requires enough { length decisions.now ≤ length plan.now }
-    ensures { FirstMisfit decisions.now (from_flags active.now) (from_bytes plan.now) (length decisions.now) result }
-{
-    for (i, decision) in decisions.iter().enumerate() {
-        check_choice(i as u8, decision.size, active[i], plan[i])?;
-    }
-    Ok(())
-}
 
 /// The place of the first forbid rule that a plan meets.
 fn first_forbidden(rows: &[Row], plan: &[u8]) -> Option<usize>
-    ensures { result ≡ place_from 0 (filter (λ x. is_forbid x.kind) rows.now) (from_bytes plan.now) }
+    ensures { result ≡ position (met (from_bytes plan.now)) (filter (λ x. is_forbid x.kind) rows.now) }
 {
-    let mut place = 0;
-    for row in rows {
-        if row.kind.is_forbid() {
-            if row.met(plan) {
-                return Some(place);
-            }
-            place += 1;
-        }
-    }
-    None
+    rows.iter()
+        .filter(|row| row.kind.is_forbid())
+        .position(|row| row.met(plan))
 }
 
 /// Whether a row is a price rule that a plan meets.
@@ -66,15 +28,11 @@ fn pays(row: &Row, plan: &[u8]) -> bool
 
 /// The cost of a plan: the joined costs of the price rules that it meets.
 fn cost_of<M: Measure>(rows: &[Row], plan: &[u8]) -> M
-    ensures { result ≡ cost M.meaning (filter (λ x. is_price x.kind) rows.now) (from_bytes plan.now) }
+    ensures { result ≡ fold (λ sum x. M.meaning.joins sum (M.meaning.reads x.price)) M.meaning.neutral (filter (λ x. is_price x.kind && met (from_bytes plan.now) x) rows.now) }
 {
-    let mut sum = M::neutral();
-    for row in rows {
-        if pays(row, plan) {
-            sum = sum.join(M::read(row.price));
-        }
-    }
-    sum
+    rows.iter()
+        .filter(|row| pays(row, plan))
+        .fold(M::neutral(), |sum, row| sum.join(M::read(row.price)))
 }
 
 /// Whether a plan is lawful, and its cost if it is; else the first law that it breaks.
@@ -84,8 +42,7 @@ fn verdict<M: Measure>(decisions: &[Decision], rows: &[Row], plan: &[u8]) -> Ver
     requires exact { length plan.now ≡ length decisions.now }
     ensures { Judged M.meaning (book_of decisions.now rows.now) (from_bytes plan.now) result }
 {
-    let active = active_decisions(decisions, rows, plan);
-    check_choices(decisions, &active, plan)?;
+    check_choices::<ActivateKind>(decisions, rows, plan)?;
     if let Some(place) = first_forbidden(rows, plan) {
         return Err(Breach::Forbidden(place));
     }

@@ -3,7 +3,9 @@
 
 mod active;
 mod checks;
+mod choices;
 mod compose;
+mod counting;
 mod decision;
 mod judging;
 mod literal;
@@ -15,7 +17,10 @@ mod rule;
 mod tests;
 mod verdict;
 
+pub use active::enabled;
 pub use checks::{check_decisions, check_row};
+pub use choices::check_choices;
+pub use counting::{ActivateKind, Counting, EachRow};
 pub use decision::Decision;
 pub use judging::judge;
 pub use literal::{Literal, value_of};

@@ -1,25 +1,7 @@
-use Rattle.std.proofs.Common.{◌+◌, leb, get_or, sym, refl, ◌∙◌}
-use Rattle.std.proofs.lemmas.List.{at_drop_all}
-use Rattle.std.proofs.lemmas.Bool.{le-leb, lt-leb}
-use Rattle.rules.specs.Compose.{blank, ascends_from}
-use Rattle.rules.proofs.Loops.{each_fails, each_more}
+use Rattle.std.proofs.Common.{ltb, rules}
+use Rattle.std.proofs.lemmas.List.Sorted.{answers_always}
+use Rattle.rules.proofs.Ascending.{ascends_by_neighbours}
 use Rattle.rules.proofs.compose.ascend.Goals as goal
 
-pub returns-then-decision-least : goal.returns-then-decision-least
-returns-then-decision-least c =
-    let ls = c.args.pairs.now in
-    let i = c.loop-pair.pair-index in
-    let d = (get_or ls i blank).decision in
-    sym (c.loop-pair.invariant
-    ∙ each_fails (ascends_from c.loop-pair.least) (ascends_from (d + 1)) (leb c.loop-pair.least d) ls i blank (λ ys. refl) c.loop-pair-test.true (lt-leb c.loop-pair.least d c.if-decision-least.true))
-
-pub loop-pair-preserved : goal.loop-pair-preserved
-loop-pair-preserved c =
-    let ls = c.args.pairs.now in
-    let i = c.loop-pair.pair-index in
-    let d = (get_or ls i blank).decision in
-    c.loop-pair.invariant
-    ∙ each_more (ascends_from c.loop-pair.least) (ascends_from (d + 1)) (leb c.loop-pair.least d) ls i blank (λ ys. refl) c.loop-pair-test.true (le-leb c.loop-pair.least d c.if-decision-least.false)
-
 pub returns : goal.returns
-returns c = sym (c.loop-pair.invariant ∙ at_drop_all (ascends_from c.loop-pair.least) c.args.pairs.now c.loop-pair.pair-index c.loop-pair-test.false)
+returns c = ascends_by_neighbours c.args.pairs.now c.is_sorted_by.result (c.is_sorted_by.ensures.cases (λ a b. ltb a.decision b.decision) (answers_always _ _ _ (λ f a r f' h. search rules)))
