@@ -27,11 +27,11 @@ none_met (r ∷ rs) p h =
     let (here, later) = and_parts (not (met p r)) (meets_none rs p) h in
     (not-true (met p r) here, none_met rs p later)
 
-below_all : (t : ℕ → Bool) (n : ℕ) → ((d : ℕ) → d < n → t d ≡ true) → all_below t n ≡ true
+pub below_all : (t : ℕ → Bool) (n : ℕ) → ((d : ℕ) → d < n → t d ≡ true) → all_below t n ≡ true
 below_all t zero h = refl
 below_all t (suc n) h = and_from (t n) (all_below t n) (h n (omega arith)) (below_all t n (λ d l. h d (omega arith)))
 
-both_true : (x y : Bool) → (x ≡ true → y ≡ true) → (y ≡ true → x ≡ true) → beq x y ≡ true
+pub both_true : (x y : Bool) → (x ≡ true → y ≡ true) → (y ≡ true → x ≡ true) → beq x y ≡ true
 both_true true true f g = refl
 both_true true false f g = f refl
 both_true false true f g = g refl

@@ -4,13 +4,13 @@ use mathlib.Core.Path.{fun_ext}
 use native.Mathlib.Nat.{sub-zero}
 use lib.ListN.{get_or-eq_default}
 use Rattle.std.proofs.lemmas.Bool.{and_parts, not-false, ltb-true, ltb-false, lt-ltb, le-ltb, eqb-true, eqb-false, cases_lt, false≢true, both_ways}
-use Rattle.std.specs.List.{AllByRecursion}
+use Rattle.std.specs.List.{AllByRecursion, position_from}
 use Rattle.rules.specs.Compose.{is_activate}
 use Rattle.rules.specs.Conditions.{Plan, met, condition, from_bytes, plan_of}
 use Rattle.rules.specs.Judging.{open_refusal, row_refusal, rows_refusal, judge_refusal, known_decisions, known_values, sized, book_of, Fits, FitsBelow, FirstMet, Breaks}
 use Rattle.rules.specs.Plans.{Book, Lawful, active, size_at}
 use Rattle.rules.specs.Refusals.{when, as_result}
-use Rattle.rules.specs.Searches.{misfit, misfit_at, FirstMisfit, place_from}
+use Rattle.rules.specs.Searches.{misfit, misfit_at, FirstMisfit}
 use Rattle.rules.specs.declared.decision.Decision.{Decision}
 use Rattle.rules.specs.declared.refusal.Refusal.TheVariants.{TooManyDecisions, SizeOutOfRange, UnknownDecision, UnknownValue}
 use Rattle.rules.specs.declared.row.Row.{Row}
@@ -45,7 +45,7 @@ targets_known ds (r ∷ rs) h =
     go false e here later = later
 
 -- a decision that is no misfit
-misfit_none : (d size v : ℕ) (a : Bool) → misfit d size a v ≡ None → (0 < v → a ≡ true) × (a ≡ true → 0 < v) × (v ≤ size)
+pub misfit_none : (d size v : ℕ) (a : Bool) → misfit d size a v ≡ None → (0 < v → a ≡ true) × (a ≡ true → 0 < v) × (v ≤ size)
 misfit_none d size v false h =
     let zero-value = ltb-false 0 v (when_none (ltb 0 v) (NotActive d) h) in
     ((λ l. absurd (omega arith)), (λ e. absurd (false≢true e)), omega arith)
@@ -97,24 +97,24 @@ module _ (b : Book) (p : Plan) (known : Targets (length b.decisions) b.activates
   no_misfit_fits n none = λ e k. fits_from e (none e k)
 
 -- the place that is found is that of the first met row
-place_found : (n k : ℕ) (rs : List Row) (p : Plan) → place_from n rs p ≡ Some k → (j : ℕ) × (k ≡ n + j) × FirstMet rs p j
+place_found : (n k : ℕ) (rs : List Row) (p : Plan) → position_from (met p) n rs ≡ Some k → (j : ℕ) × (k ≡ n + j) × FirstMet rs p j
 place_found n k [] p h = absurd (let z : ◌≡◌ {A = ℕ} 0 1 = cc in omega arith)
 place_found n k (r ∷ rs) p h = go (met p r) refl h (place_found (n + 1) k rs p)
   where
-    go : (b : Bool) → met p r ≡ b → cond b (Some n) (place_from (n + 1) rs p) ≡ Some k → (place_from (n + 1) rs p ≡ Some k → (j : ℕ) × (k ≡ (n + 1) + j) × FirstMet rs p j) → (j : ℕ) × (k ≡ n + j) × FirstMet (r ∷ rs) p j
+    go : (b : Bool) → met p r ≡ b → cond b (Some n) (position_from (met p) (n + 1) rs) ≡ Some k → (position_from (met p) (n + 1) rs ≡ Some k → (j : ℕ) × (k ≡ (n + 1) + j) × FirstMet rs p j) → (j : ℕ) × (k ≡ n + j) × FirstMet (r ∷ rs) p j
     go true e f later = let q : n ≡ k = cc in (0, omega arith, (omega arith, tt, λ d. e))
     go false e f later =
         let (j, same, (l, none, here)) = later f in
         (suc j, omega arith, (omega arith, (e, none), here))
 
-pub place_first : (k : ℕ) (rs : List Row) (p : Plan) → place_from 0 rs p ≡ Some k → FirstMet rs p k
+pub place_first : (k : ℕ) (rs : List Row) (p : Plan) → position_from (met p) 0 rs ≡ Some k → FirstMet rs p k
 place_first k rs p h = let (j, same, first) = place_found 0 k rs p h in let e : j ≡ k = omega arith in subst (FirstMet rs p) e first
 
-pub place_none : (n : ℕ) (rs : List Row) (p : Plan) → place_from n rs p ≡ None → AllByRecursion (λ r. met p r ≡ false) rs
+pub place_none : (n : ℕ) (rs : List Row) (p : Plan) → position_from (met p) n rs ≡ None → AllByRecursion (λ r. met p r ≡ false) rs
 place_none n [] p h = tt
 place_none n (r ∷ rs) p h = go (met p r) refl h (place_none (n + 1) rs p)
   where
-    go : (b : Bool) → met p r ≡ b → cond b (Some n) (place_from (n + 1) rs p) ≡ None → (place_from (n + 1) rs p ≡ None → AllByRecursion (λ x. met p x ≡ false) rs) → (met p r ≡ false) × AllByRecursion (λ x. met p x ≡ false) rs
+    go : (b : Bool) → met p r ≡ b → cond b (Some n) (position_from (met p) (n + 1) rs) ≡ None → (position_from (met p) (n + 1) rs ≡ None → AllByRecursion (λ x. met p x ≡ false) rs) → (met p r ≡ false) × AllByRecursion (λ x. met p x ≡ false) rs
     go true e f later = absurd (let z : ◌≡◌ {A = ℕ} 0 1 = cc in omega arith)
     go false e f later = (e, later f)
 
@@ -144,10 +144,10 @@ module _ (ds : List Decision) (rs : List Row) (p : Plan) (accepted : open_refusa
   pub found_misfit : (x : Breach) → FirstMisfit ds (active (book_of ds rs) p) p (length ds) (Err x) → Breaks (book_of ds rs) p x
   found_misfit x h = misfit_breaks (book_of ds rs) p targets (length ds) x h
 
-  pub found_forbidden : (k : ℕ) → FirstMisfit ds (active (book_of ds rs) p) p (length ds) (Ok tt) → place_from 0 (forbids rs) p ≡ Some k → Breaks (book_of ds rs) p (Forbidden k)
+  pub found_forbidden : (k : ℕ) → FirstMisfit ds (active (book_of ds rs) p) p (length ds) (Ok tt) → position_from (met p) 0 (forbids rs) ≡ Some k → Breaks (book_of ds rs) p (Forbidden k)
   found_forbidden k fit h = (no_misfit_fits (book_of ds rs) p targets (length ds) fit, place_first k (forbids rs) p h)
 
-  pub found_nothing : ((d : ℕ) → length ds ≤ d → p d ≡ 0) → FirstMisfit ds (active (book_of ds rs) p) p (length ds) (Ok tt) → place_from 0 (forbids rs) p ≡ None → Lawful (book_of ds rs) p
+  pub found_nothing : ((d : ℕ) → length ds ≤ d → p d ≡ 0) → FirstMisfit ds (active (book_of ds rs) p) p (length ds) (Ok tt) → position_from (met p) 0 (forbids rs) ≡ None → Lawful (book_of ds rs) p
   found_nothing idle fit h = lawful_from_fits (book_of ds rs) p targets (no_misfit_fits (book_of ds rs) p targets (length ds) fit) idle (place_none 0 (forbids rs) p h)
 
 -- judging is not refused where no check refuses

@@ -1,5 +1,5 @@
 -- Plans, pairs and conditions.
-use Rattle.std.specs.Prelude.{ℕ, Bool, true, false, cond, ◌&&◌, ◌||◌, List, [], ◌∷◌, take, ◌==◌, nat_lt, slice_index}
+use Rattle.std.specs.Prelude.{ℕ, Bool, cond, ◌&&◌, List, take, ◌==◌, nat_lt, slice_index}
 use Rattle.std.specs.List.{list_all, list_any}
 use Rattle.rules.specs.declared.literal.Literal.{Literal}
 use Rattle.rules.specs.declared.row.Row.{Row}

@@ -1,8 +1,6 @@
 -- What the loops of judging find, by outcome.
-use Rattle.std.specs.Prelude.{◌≡◌, ℕ, ◌+◌, ◌<◌, Bool, true, false, cond, ◌&&◌, ◌||◌, List, [], ◌∷◌, length, Some, None, Ok, Err, Option, Result, ◌==◌, nat_lt, slice_index_or}
-use Rattle.std.specs.List.{AllByRecursion, position_from}
-use Rattle.rules.specs.Compose.{is_activate}
-use Rattle.rules.specs.Conditions.{Plan, from_bytes, met}
+use Rattle.std.specs.Prelude.{◌≡◌, ℕ, ◌<◌, Bool, true, false, cond, List, length, Some, None, Ok, Err, Option, Result, ◌==◌, nat_lt}
+use Rattle.rules.specs.Conditions.{Plan, from_bytes}
 use Rattle.rules.specs.Plans.{Set, on_at, rounds, size_at}
 use Rattle.rules.specs.Refusals.{when}
 use Rattle.rules.specs.declared.decision.Decision.{Decision}
@@ -26,7 +24,3 @@ FirstMisfit ds s p n (Err x) = (d : ℕ) × (d < n) × ((e : ℕ) → e < d → 
 -- that a plan chooses exactly what is active after as many rounds over these rows as there are decisions, each in its range, else how it mistreats the first
 abbrev pub Chooses : List Decision → List Row → List ℕ → Result (Unit {0}) Breach → Type 0
 Chooses ds rs bytes r = FirstMisfit ds (rounds (length ds) rs (from_bytes bytes) (on_at ds)) (from_bytes bytes) (length ds) r
-
--- the place of the first of these rows that a plan meets, counted from n
-abbrev pub place_from : ℕ → List Row → Plan → Option ℕ
-place_from n rs p = position_from (met p) n rs

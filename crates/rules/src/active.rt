@@ -64,7 +64,11 @@ pub fn enabled<C: Counting>(rows: &[Row], plan: &[u8]) -> DecisionSet
 }
 
 /// The active decisions: those marked on, and in as many rounds as there are decisions what their choices enable.
-pub fn active_decisions<C: Counting>(decisions: &[Decision], rows: &[Row], plan: &[u8]) -> DecisionSet
+pub fn active_decisions<C: Counting>(
+    decisions: &[Decision],
+    rows: &[Row],
+    plan: &[u8],
+) -> DecisionSet
     requires few { length decisions.now ≤ 64 }
     requires short { length plan.now ≤ 64 }
     ensures { (d : ℕ) → d < 64 → members result d ≡ rounds (length decisions.now) (filter C.counted rows.now) (from_bytes plan.now) (on_at decisions.now) d }

@@ -43,7 +43,9 @@ pub fn check_decisions(decisions: &[Decision]) -> Result<(), Refusal>
 fn size_of(decisions: &[Decision], decision: u8) -> u8
     ensures { result ≡ size_at decisions.now decision }
 {
-    decisions.get(decision as usize).map_or(0, |decision| decision.size)
+    decisions
+        .get(decision as usize)
+        .map_or(0, |decision| decision.size)
 }
 
 /// Whether a pair's value is one of its decision's.

@@ -32,14 +32,23 @@ fn check_each(decisions: &[Decision], active: DecisionSet, plan: &[u8]) -> Resul
 {
     for (i, decision) in decisions.iter().enumerate() {
         let number = i as u8;
-        check_choice(number, decision.size, active.has(number), value_of(plan, number))?;
+        check_choice(
+            number,
+            decision.size,
+            active.has(number),
+            value_of(plan, number),
+        )?;
     }
     Ok(())
 }
 
 /// Whether a plan chooses just the active decisions, each in its range; else how it mistreats the first that it does.
 /// Decisions and bytes past the first 64 are left out.
-pub fn check_choices<C: Counting>(decisions: &[Decision], rows: &[Row], plan: &[u8]) -> Result<(), Breach>
+pub fn check_choices<C: Counting>(
+    decisions: &[Decision],
+    rows: &[Row],
+    plan: &[u8],
+) -> Result<(), Breach>
     ensures { Chooses (take 64 decisions.now) (filter C.counted rows.now) (take 64 plan.now) result }
 {
     let decisions = &decisions[0..decisions.len().min(64)];

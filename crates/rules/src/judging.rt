@@ -3,8 +3,6 @@ ghost use Rattle.std.specs.Prelude.{◌≡◌, ◌&&◌, length, None, filter, f
 ghost use Rattle.rules.specs.Compose.{is_forbid, is_price};
 ghost use Rattle.rules.specs.Conditions.{from_bytes, met};
 ghost use Rattle.rules.specs.Judging.{Answered, Judged, book_of, open_refusal, rows_refusal};
-ghost use Rattle.rules.specs.Plans.{cost};
-ghost use Rattle.rules.specs.Searches.{place_from};
 
 use crate::checks::{check_decisions, check_rows};
 use crate::{ActivateKind, Breach, Decision, Refusal, Row, Verdict, check_choices};

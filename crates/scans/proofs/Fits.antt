@@ -1,42 +1,28 @@
 -- Whether decisions fit and no row is met, as loops find it.
-use Rattle.std.proofs.Common.{◌≡◌, ℕ, zero, suc, ◌+◌, ◌<◌, Bool, true, false, cond, not, ◌&&◌, ltb, leb, List, [], ◌∷◌, length, is_some, Some, None, Option, sym, refl, ap, ◌∙◌, ap₂, ⊎_elim, add-one, arith}
-use mathlib.Core.Bool.{beq}
-use Rattle.std.proofs.lemmas.Bool.{and_left, and_right, and_from, cases_eq}
+use Rattle.std.proofs.Common.{◌≡◌, ℕ, ◌≤◌, Bool, true, false, cond, not, ◌&&◌, List, [], ◌∷◌, length, take, filter, is_some, is_ok, Some, None, Option, Result, sym, refl, ap, ◌∙◌, subst}
 use Rattle.std.specs.Option.{option_map}
 use Rattle.account.specs.Steps.{first_met}
-use Rattle.rules.specs.Conditions.{Plan, met}
-use Rattle.rules.specs.Plans.{Book, Set, active, all_below, fits, is_lawful, meets_none, size_at}
+use Rattle.rules.specs.Conditions.{Plan, from_bytes, met}
+use Rattle.rules.specs.Plans.{Book, is_lawful, meets_none}
+use Rattle.rules.specs.Searches.{Chooses}
 use Rattle.rules.specs.declared.decision.Decision.{Decision}
 use Rattle.rules.specs.declared.row.Row.{Row}
-use Rattle.scans.specs.Fitting.{fits_in}
+use Rattle.rules.specs.declared.verdict.Breach.{Breach}
+use Rattle.rules.proofs.Misfits.{chosen_fits, chosen_whole}
 
--- one number more passes
-pub below_more : (t : Set) (n : ℕ) → t n ≡ true → all_below t n ≡ true → all_below t (n + 1) ≡ true
-below_more t n here old = ap (all_below t) (add-one n) ∙ and_from (t n) (all_below t n) here old
+-- every row counts
+pub each_counts : (rs : List Row) → filter (λ r. true) rs ≡ rs
+each_counts [] = refl
+each_counts (r ∷ rs) = ap (λ xs. r ∷ xs) (each_counts rs)
 
--- one that fails
-pub below_fails : (t : Set) (n i : ℕ) → i < n → t i ≡ false → all_below t n ≡ false
-below_fails t zero i l h = absurd (omega arith)
-below_fails t (suc n) i l h =
-    ⊎_elim (λ (e : i ≡ n). and_left (t n) (all_below t n) (ap t (sym e) ∙ h))
-    (λ (ne : i ≡ n → ⊥). and_right (t n) (all_below t n) (below_fails t n i (omega arith) h)) (cases_eq i n)
-
--- tests that agree below n
-below_same : (t u : Set) (n : ℕ) → ((d : ℕ) → d < n → t d ≡ u d) → all_below t n ≡ all_below u n
-below_same t u zero h = refl
-below_same t u (suc n) h = ap₂ (λ (x y : Bool). x && y) (h n (omega arith)) (below_same t u n (λ d l. h d (omega arith)))
-
--- a decision, by what was read of it
-pub fits_by : (ds : List Decision) (s : Set) (p : Plan) (d : ℕ) (b : Bool) (v : ℕ) → b ≡ s d → v ≡ p d → fits_in ds s p d ≡ (beq (ltb 0 v) b && leb v (size_at ds d))
-fits_by ds s p d b v e f = sym (ap₂ (λ (t : Bool) (w : ℕ). beq (ltb 0 w) t && leb w (size_at ds d)) e f)
-
--- lawfulness, by a set that agrees with the active decisions
-pub lawful_by : (b : Book) (p : Plan) (s : Set) (t : Bool) → ((d : ℕ) → d < length b.decisions → s d ≡ active b p d) → t ≡ all_below (fits_in b.decisions s p) (length b.decisions)
-    → (t && meets_none b.forbids p) ≡ is_lawful b p
-lawful_by b p s t same e =
-    let ds = b.decisions in
-    ap (λ (x : Bool). x && meets_none b.forbids p)
-    (e ∙ below_same (fits_in ds s p) (fits b p) (length ds) (λ d l. ap (λ (x : Bool). beq (ltb 0 (p d)) x && leb (p d) (size_at ds d)) (same d l)))
+-- lawfulness, by what was found of the choices
+pub lawful_by : (ds : List Decision) (forbids activates prices : List Row) (bytes : List ℕ) → length ds ≤ 64 → length bytes ≤ 64 → (r : Result (Unit {0}) Breach) (t : Bool) → t ≡ is_ok r → Chooses (take 64 ds) (filter (λ r. true) activates) (take 64 bytes) r
+    → (t && meets_none forbids (from_bytes bytes)) ≡ is_lawful (record { decisions = ds; forbids = forbids; activates = activates; prices = prices }) (from_bytes bytes)
+lawful_by ds forbids activates prices bytes few short r t e h =
+    let p = from_bytes bytes in
+    let b : Book = record { decisions = ds; forbids = forbids; activates = activates; prices = prices } in
+    let chosen = chosen_whole ds activates bytes r few short (subst (λ (rs : List Row). Chooses (take 64 ds) rs (take 64 bytes) r) (each_counts activates) h) in
+    ap (λ (x : Bool). x && meets_none forbids p) (e ∙ chosen_fits b p r chosen)
 
 -- no row is met if there is no first
 none_first : (rs : List Row) (p : Plan) → meets_none rs p ≡ not (is_some (first_met rs p))

@@ -1,13 +1,13 @@
 -- Sets that a loop gathers from the pairs of a condition, or from rows.
 use Rattle.std.proofs.Common.{◌≡◌, ℕ, zero, suc, ◌+◌, ◌<◌, Bool, true, false, cond, not, ◌&&◌, ◌||◌, eqb, ltb, List, [], ◌∷◌, length, get_or, drop, sym, refl, ap, ◌∙◌, ap₂, arith}
-use mathlib.Core.Bool.{and-true, and-false, or_assoc}
+use mathlib.Core.Bool.{or_assoc}
 use Rattle.std.proofs.lemmas.List.{at_drop_more}
-use Rattle.std.proofs.lemmas.Bool.{and_parts, ltb-true, lt-ltb, eqb-true}
-use Rattle.account.specs.Steps.{enabled_by, kept, named_in}
+use Rattle.std.proofs.lemmas.Bool.{and_parts, ltb-true, lt-ltb}
+use Rattle.account.specs.Steps.{kept, named_in}
 use Rattle.measure.specs.Meaning.{Meaning}
 use Rattle.rules.specs.Conditions.{Plan, condition, met, names}
 use Rattle.rules.specs.Judging.{known_decisions}
-use Rattle.rules.specs.Plans.{cost, enables}
+use Rattle.rules.specs.Plans.{cost}
 use Rattle.rules.specs.declared.literal.Literal.{Literal}
 use Rattle.rules.specs.declared.row.Row.{Row}
 
@@ -31,46 +31,7 @@ names_more ls i d s x l known =
     ∙ regroup s (eqb x (get_or ls i d).decision) (names (drop (i + 1) ls) x)
     ∙ ap (λ (t : Bool). s || t) (sym (at_drop_more (λ (ks : List Literal). names ks x) ls i d l))
 
--- a decision below 64 that a target equals is below 64
-target_low : (d t : ℕ) → d < 64 → (eqb d t && ltb t 64) ≡ eqb d t
-target_low d t l = go (eqb d t) refl
-  where
-    go : (b : Bool) → eqb d t ≡ b → (b && ltb t 64) ≡ b
-    go true e = lt-ltb t 64 (omega (arith, eqb-true d t e))
-    go false e = refl
-
 module _ (p : Plan) (rs : List Row) (i : ℕ) (r : Row) (l : i < length rs) where
-  next_enables : (d : ℕ) (b : Bool) → met p (get_or rs i r) ≡ b → enables (drop i rs) p d ≡ ((eqb d (get_or rs i r).target && b) || enables (drop (i + 1) rs) p d)
-  next_enables d b h =
-      at_drop_more (λ (xs : List Row). enables xs p d) rs i r l
-      ∙ ap (λ (t : Bool). (eqb d (get_or rs i r).target && t) || enables (drop (i + 1) rs) p d) h
-
-  -- one met row more is gathered
-  pub enables_more : (d : ℕ) (s : Bool) → d < 64 → met p (get_or rs i r) ≡ true
-      → ((s || (eqb d (get_or rs i r).target && ltb (get_or rs i r).target 64)) || enables (drop (i + 1) rs) p d) ≡ (s || enables (drop i rs) p d)
-  enables_more d s low h =
-      let t = (get_or rs i r).target in
-      ap (λ (b : Bool). (s || b) || enables (drop (i + 1) rs) p d) (target_low d t low ∙ sym (and-true (eqb d t)))
-      ∙ or_assoc s (eqb d t && true) (enables (drop (i + 1) rs) p d)
-      ∙ ap (λ (b : Bool). s || b) (sym (next_enables d true h))
-
-  -- a row that is not met gives nothing
-  pub enables_skip : (d : ℕ) → met p (get_or rs i r) ≡ false → enables (drop (i + 1) rs) p d ≡ enables (drop i rs) p d
-  enables_skip d h = sym (next_enables d false h ∙ ap (λ (b : Bool). b || enables (drop (i + 1) rs) p d) (and-false (eqb d (get_or rs i r).target)))
-
-  next_enabled_by : (d : ℕ) (b : Bool) → (eqb d (get_or rs i r).target && met p (get_or rs i r)) ≡ b → enabled_by (drop i rs) p d ≡ cond b (names (condition (get_or rs i r))) (enabled_by (drop (i + 1) rs) p d)
-  next_enabled_by d b h =
-      at_drop_more (λ (xs : List Row). enabled_by xs p d) rs i r l
-      ∙ ap (λ (t : Bool). cond t (names (condition (get_or rs i r))) (enabled_by (drop (i + 1) rs) p d)) h
-
-  -- the first enabling row
-  pub enabler_here : (d : ℕ) → (eqb d (get_or rs i r).target && met p (get_or rs i r)) ≡ true → enabled_by (drop i rs) p d ≡ names (condition (get_or rs i r))
-  enabler_here d h = next_enabled_by d true h
-
-  -- a row that does not enable
-  pub enabler_later : (d : ℕ) → (eqb d (get_or rs i r).target && met p (get_or rs i r)) ≡ false → enabled_by (drop i rs) p d ≡ enabled_by (drop (i + 1) rs) p d
-  enabler_later d h = next_enabled_by d false h
-
   module _ {C : Type 0} (m : Meaning C) (best before : C) where
     choice : Bool → Bool → List Row
     choice b t =

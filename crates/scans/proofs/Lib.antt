@@ -1,5 +1,5 @@
 pub mod Firsts
 pub mod Costs
 pub mod Gathered
-pub mod Rounds
+pub mod Enabling
 pub mod Fits

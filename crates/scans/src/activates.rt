@@ -1,5 +1,6 @@
 //! What activate rules make active.
-ghost use Rattle.std.specs.Prelude.{◌≡◌, ℕ, ◌<◌, ◌&&◌, ◌==◌};
+ghost use Rattle.std.specs.Prelude.{◌≡◌, ℕ, ◌<◌, ◌&&◌, ◌==◌, find};
+ghost use Rattle.std.specs.Option.{option_map};
 ghost use Rattle.account.specs.Steps.{enabled_by};
 ghost use Rattle.rules.specs.Conditions.{from_bytes, met};
 ghost use Rattle.rules.specs.Plans.{enables};
@@ -7,27 +8,22 @@ ghost use Rattle.scans.specs.Known.{Known};
 ghost use Rattle.sets.specs.Members.{members};
 
 use crate::names::named;
-use rules::Row;
+use rules::{EachRow, Row};
 use sets::DecisionSet;
 
 /// The targets of the rows that a plan meets.
 pub fn enabled(rows: &[Row], plan: &[u8]) -> DecisionSet
     ensures { (d : ℕ) → d < 64 → members result d ≡ enables rows.now (from_bytes plan.now) d }
 {
-    let mut targets = DecisionSet::empty();
-    for row in rows {
-        if row.met(plan) {
-            targets = targets.with(row.target);
-        }
-    }
-    targets
+    rules::enabled::<EachRow>(rows, plan)
 }
 
-/// Whether a row has this target, and a plan meets it.
-fn activates(row: &Row, plan: &[u8], decision: u8) -> bool
-    ensures { result ≡ (decision == row.now.target && met (from_bytes plan.now) row.now) }
+/// The first row with this target that a plan meets.
+fn first_activating<'a>(rows: &'a [Row], plan: &[u8], decision: u8) -> Option<&'a Row>
+    ensures { option_map (λ x. x.now) result ≡ find (λ x. decision == x.target && met (from_bytes plan.now) x) rows.now }
 {
-    decision == row.target && row.met(plan)
+    rows.iter()
+        .find(|row| decision == row.target && row.met(plan))
 }
 
 /// The decisions in the condition of the first row with this target that a plan meets.
@@ -35,10 +31,5 @@ pub fn enabler(rows: &[Row], plan: &[u8], decision: u8) -> DecisionSet
     requires { Known rows.now }
     ensures { members result ≡ enabled_by rows.now (from_bytes plan.now) decision }
 {
-    for row in rows {
-        if activates(row, plan, decision) {
-            return named(row);
-        }
-    }
-    DecisionSet::empty()
+    first_activating(rows, plan, decision).map_or(DecisionSet::empty(), named)
 }

@@ -1,31 +1,8 @@
-use Rattle.std.proofs.Common.{ℕ, ◌+◌, Bool, ◌||◌, drop, sym, ap, ◌∙◌}
-use mathlib.Core.Bool.{or-false}
-use Rattle.std.proofs.lemmas.List.{at_drop_all}
+use Rattle.std.proofs.Common.{ap, ◌∙◌}
 use Rattle.rules.specs.Conditions.{from_bytes}
 use Rattle.rules.specs.Plans.{enables}
-use Rattle.sets.specs.Members.{members}
-use Rattle.sets.specs.declared.decision_set.DecisionSet.{DecisionSet}
-use Rattle.scans.proofs.Gathered.{enables_more, enables_skip}
+use Rattle.scans.proofs.Fits.{each_counts}
 use Rattle.scans.proofs.activates.enabled.Goals as goal
-use Rattle.scans.proofs.activates.enabled.Goals.{then-met, else-met}
-
-pub loop-row-preserved : goal.loop-row-preserved
-loop-row-preserved c d low =
-    let rs = c.args.rows.now in
-    let p = from_bytes c.args.plan.now in
-    let i = c.loop-row.row-index in
-    let later = enables (drop (i + 1) rs) p d in
-    elim c.if-met.branch [
-      | then-met w ↦
-          ap (λ (s : DecisionSet). members s d || later) w.targets-is ∙ ap (λ (s : ℕ → Bool). s d || later) w.with-targets.ensures
-          ∙ enables_more p rs i _ c.loop-row-test.true d (members c.loop-row.targets d) low (sym w.if-met.ensures) ∙ c.loop-row.invariant d low
-      | else-met w ↦
-          ap (λ (s : DecisionSet). members s d || later) w.targets-is
-          ∙ ap (λ (b : Bool). members c.loop-row.targets d || b) (enables_skip p rs i _ c.loop-row-test.true d (sym w.if-met.ensures)) ∙ c.loop-row.invariant d low
-    ]
 
 pub returns : goal.returns
-returns c d low =
-    sym (or-false (members c.loop-row.targets d))
-    ∙ ap (λ (b : Bool). members c.loop-row.targets d || b) (sym (at_drop_all (λ rs. enables rs (from_bytes c.args.plan.now) d) c.args.rows.now c.loop-row.row-index c.loop-row-test.false))
-    ∙ c.loop-row.invariant d low
+returns c d low = c.enabled.ensures d low ∙ ap (λ rs. enables rs (from_bytes c.args.plan.now) d) (each_counts c.args.rows.now)

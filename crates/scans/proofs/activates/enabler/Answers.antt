@@ -1,25 +1,19 @@
-use Rattle.std.proofs.Common.{◌≡◌, true, sym, ◌∙◌}
-use Rattle.std.proofs.ByRecursion.{All-get_or}
-use Rattle.std.proofs.lemmas.List.{at_drop_all}
-use Rattle.account.specs.Steps.{enabled_by}
-use Rattle.rules.specs.Conditions.{condition, from_bytes}
+use Rattle.std.proofs.Common.{◌≡◌, true, eqb, ◌&&◌, ap, sym, ◌∙◌}
+use Rattle.std.specs.Option.{option_map}
+use Rattle.rules.specs.Conditions.{condition, from_bytes, met}
 use Rattle.rules.specs.Judging.{known_decisions}
-use Rattle.scans.proofs.Gathered.{enabler_here, enabler_later}
+use Rattle.scans.proofs.Enabling.{found_has, enabled_by_first, named_by, named_from}
 use Rattle.scans.proofs.activates.enabler.Goals as goal
 
-pub named-requires : goal.named-requires
-named-requires c = All-get_or (λ r. known_decisions 64 (condition r) ≡ true) c.args.rows.now c.loop-row.row-index _ c.loop-row-test.true c.requires
-
-pub returns-then-activates : goal.returns-then-activates
-returns-then-activates c =
-    c.named.ensures
-    ∙ sym (c.loop-row.invariant ∙ enabler_here (from_bytes c.args.plan.now) c.args.rows.now c.loop-row.row-index _ c.loop-row-test.true c.args.decision (sym c.if-activates.ensures))
-
-pub loop-row-preserved : goal.loop-row-preserved
-loop-row-preserved c =
-    c.loop-row.invariant ∙ enabler_later (from_bytes c.args.plan.now) c.args.rows.now c.loop-row.row-index _ c.loop-row-test.true c.args.decision (sym c.if-activates.ensures)
+pub map_or-requires : goal.map_or-requires
+map_or-requires c x e =
+    let p = from_bytes c.args.plan.now in
+    let d = c.args.decision in
+    found_has (λ r. known_decisions 64 (condition r) ≡ true) (λ r. eqb d r.target && met p r) c.args.rows.now x.now c.requires
+    (sym c.first_activating.ensures ∙ ap (option_map (λ y. y.now)) e)
 
 pub returns : goal.returns
 returns c =
-    c.empty.ensures
-    ∙ sym (c.loop-row.invariant ∙ at_drop_all (λ rs. enabled_by rs (from_bytes c.args.plan.now) c.args.decision) c.args.rows.now c.loop-row.row-index c.loop-row-test.false)
+    let p = from_bytes c.args.plan.now in
+    named_from (λ y. y.now) c.first_activating.result c.map_or.result c.empty.result c.empty.ensures c.map_or.ensures
+    ∙ ap named_by c.first_activating.ensures ∙ enabled_by_first c.args.rows.now p c.args.decision
