@@ -10,11 +10,9 @@ ghost use Rattle.tables.specs.Tables.{table_rows};
 ghost use Rattle.planner.specs.Books.{book_of, over_decisions, with_decisions};
 
 use crate::book::Book;
+use arrayvec::ArrayVec;
 use rules::{Decision, Kind, Row};
 use tables::RuleTable;
-
-/// No decision: what stands behind the last.
-const ABSENT: Decision = Decision { size: 0, on: false };
 
 impl Book {
     /// A book of no decisions and no rules.
@@ -22,8 +20,7 @@ impl Book {
         ensures { book_of result ≡ over_decisions [] }
     {
         Book {
-            decisions: [ABSENT; 64],
-            count: 0,
+            decisions: ArrayVec::new(),
             forbids: RuleTable::new(),
             activates: RuleTable::new(),
             prices: RuleTable::new(),
@@ -46,9 +43,9 @@ impl Book {
         requires { open_refusal decisions.now ≡ None }
         ensures { book_of self.new ≡ with_decisions (book_of self.old) decisions.now }
     {
-        let front = &mut self.decisions[0..decisions.len()];
-        front.copy_from_slice(decisions);
-        self.count = decisions.len();
+        self.decisions.clear();
+        // Accepted decisions are 64 at most, so they fit.
+        let _ = self.decisions.try_extend_from_slice(decisions);
     }
 
     /// The decisions.
@@ -57,7 +54,7 @@ impl Book {
         ensures few { length result.now ≤ 64 }
         ensures sizes { sized result.now ≡ true }
     {
-        &self.decisions[0..self.count]
+        self.decisions.as_slice()
     }
 
     /// How many values a decision has.

@@ -4,7 +4,6 @@ use Rattle.sets.specs.Members.{members}
 use Rattle.tables.specs.Excluded.{exclusions_of}
 use Rattle.tables.specs.Trails.{trail_of}
 use Rattle.planner.specs.Planners.{account_of}
-use Rattle.planner.proofs.Opened.{book_few}
 use Rattle.planner.proofs.Stepped.{entered, free_value, stuck}
 use Rattle.planner.proofs.planner.Planner.extend.Goals as goal
 
@@ -12,7 +11,7 @@ pub push-requires : goal.push-requires
 push-requires g c =
     let (low, high) = free_value (exclusions_of c.try_values.new.exclusions c.args.decision) c.size_of-size.result c.in-Some.value (sym c.in-Some.ensures) in
     record {
-      known = omega (arith, c.requires.known, book_few c.args.self.now.book);
+      known = omega (arith, c.requires.known, c.args.self.now.book.few);
       some = low;
       few = omega (arith, high, c.size_of-size.ensures.few);
       idle = c.requires.idle;

@@ -3,7 +3,6 @@ use Rattle.account.specs.Calls.{leaves, rank}
 use Rattle.rules.specs.declared.refusal.Refusal.TheVariants.{UnknownDecision}
 use Rattle.planner.specs.Planners.{account_of}
 use Rattle.planner.proofs.Called.{accepts, known_decision, parts_same, rank_set}
-use Rattle.planner.proofs.Opened.{book_few}
 use Rattle.planner.proofs.planner.Planner.rank.Goals as goal
 
 pub returns : goal.returns
@@ -14,5 +13,5 @@ returns g c =
     let (told, left) = accepts m a (rank c.args.decision c.args.rank) (known_decision (length a.book.decisions) c.args.decision UnknownDecision known) in
     record {
       value = told;
-      after = parts_same _ (leaves m a (rank c.args.decision c.args.rank)) refl (rank_set c.args.self.now.ranks c.args.decision c.args.rank (omega (arith, c.args.self.now.ranked, known, book_few c.args.self.now.book))) refl refl refl refl ∙ left;
+      after = parts_same _ (leaves m a (rank c.args.decision c.args.rank)) refl (rank_set c.args.self.now.ranks c.args.decision c.args.rank (omega (arith, c.args.self.now.ranked, known, c.args.self.now.book.few))) refl refl refl refl ∙ left;
     }
