@@ -1,9 +1,9 @@
 //! The excluded values of every decision.
 ghost use Rattle.std.specs.Prelude.{◌≡◌, ◌<◌, ◌≤◌, not, ◌&&◌, ◌||◌, if◌then◌else◌, Some, None, ◌==◌, nat_eq, nat_lt};
-ghost use Rattle.account.specs.Accounts.{empty_below};
+ghost use Rattle.account.specs.Accounts.{either, empty_below};
 ghost use Rattle.account.specs.Calls.{count_free};
 ghost use Rattle.account.specs.Changes.{keep_if};
-ghost use Rattle.account.specs.Steps.{any_rests, is_free, reasons, rests_on, smallest_free};
+ghost use Rattle.account.specs.Steps.{any_rests, is_free, reason_of, reasons, rests_on, smallest_free};
 ghost use Rattle.sets.specs.Members.{members, values};
 ghost use Rattle.tables.specs.Excluded.{as_exclusion, cell_of, exclusions_of, spared, unless_meets};
 
@@ -29,38 +29,13 @@ fn cell(d: u8, v: u8) -> usize
     16 * (d as usize) + (v as usize - 1)
 }
 
-/// A set of values without one of them.
-fn without(set: ValueSet, v: u8) -> ValueSet
-    requires low { 1 ≤ v }
-    requires high { v ≤ 16 }
-    ensures { values result ≡ (λ x. values set x && not (x == v)) }
-{
-    ValueSet {
-        bits: set.bits & !(1u16 << (v - 1)),
-    }
-}
-
 /// A set of values with one of them in it or out of it.
 fn marked(set: ValueSet, v: u8, mark: bool) -> ValueSet
     requires low { 1 ≤ v }
     requires high { v ≤ 16 }
     ensures { values result ≡ (λ x. (if nat_eq x v then mark else values set x)) }
 {
-    if mark { set.with(v) } else { without(set, v) }
-}
-
-/// The set of the decisions below a number, of 64 at most.
-fn first_decisions(count: u8) -> DecisionSet
-    requires { count ≤ 64 }
-    ensures { members result ≡ (λ x. nat_lt x count) }
-{
-    if count < 64 {
-        DecisionSet {
-            bits: (1u64 << count) - 1,
-        }
-    } else {
-        DecisionSet { bits: u64::MAX }
-    }
+    if mark { set.with(v) } else { set.without(v) }
 }
 
 impl Exclusions {
@@ -133,13 +108,7 @@ impl Exclusions {
         requires few { size ≤ 16 }
         ensures { members result ≡ reasons (exclusions_of self.now d) size }
     {
-        let mut all = DecisionSet::empty();
-        for v in 1..size + 1 {
-            if let Some((reason, _)) = self.get(d, v) {
-                all = all.union(reason);
-            }
-        }
-        all
+        (1..size + 1).fold(DecisionSet::empty(), |all, v| self.with_reason(all, d, v))
     }
 
     /// Whether an exclusion of the values 1 to `size` rests on the best.
@@ -148,22 +117,21 @@ impl Exclusions {
         requires few { size ≤ 16 }
         ensures { result ≡ any_rests (exclusions_of self.now d) size }
     {
-        for v in 1..size + 1 {
-            if self.rests(d, v) {
-                return true;
-            }
-        }
-        false
+        (1..size + 1).any(|v| self.rests(d, v))
+    }
+
+    /// A set with the decisions of a value's reason, if it is excluded.
+    fn with_reason(&self, all: DecisionSet, d: u8, v: u8) -> DecisionSet
+        ensures { members result ≡ either (members all) (reason_of (exclusions_of self.now d v)) }
+    {
+        self.get(d, v).map_or(all, |(reason, _)| all.union(reason))
     }
 
     /// Whether a value is excluded by what rests on the best.
     fn rests(&self, d: u8, v: u8) -> bool
         ensures { result ≡ rests_on (exclusions_of self.now d v) }
     {
-        match self.get(d, v) {
-            Some((_, rests)) => rests,
-            None => false,
-        }
+        self.get(d, v).is_some_and(|(_, rests)| rests)
     }
 
     /// Takes every exclusion out whose reason has a decision that left.
@@ -179,7 +147,7 @@ impl Exclusions {
         requires { count ≤ 64 }
         ensures { exclusions_of self.new ≡ (λ d v. keep_if (λ e. empty_below e.reason count && (resting || not e.rests)) (exclusions_of self.old d v)) }
     {
-        self.retain(first_decisions(count), resting);
+        self.retain(DecisionSet::first(count), resting);
     }
 
     /// Takes every exclusion out whose reason has a decision of a set, and unless `resting` those that rest on the best.
@@ -198,22 +166,15 @@ impl Exclusions {
     fn spared_values(&self, d: u8, barred: DecisionSet, resting: bool) -> ValueSet
         ensures { values result ≡ (λ v. not (is_free (keep_if (spared (members barred) resting) (exclusions_of self.now d v)))) }
     {
-        let mut stays = ValueSet { bits: 0 };
-        for v in 1..17u8 {
-            if self.spares(d, v, barred, resting) {
-                stays = stays.with(v);
-            }
-        }
-        stays
+        (1..17u8)
+            .filter(|v| self.spares(d, *v, barred, resting))
+            .fold(ValueSet::empty(), |stays, v| stays.with(v))
     }
 
     /// Whether a value is excluded and spared.
     fn spares(&self, d: u8, v: u8, barred: DecisionSet, resting: bool) -> bool
         ensures { result ≡ not (is_free (keep_if (spared (members barred) resting) (exclusions_of self.now d v))) }
     {
-        match self.get(d, v) {
-            Some((reason, rests)) => !reason.meets(barred) && (resting || !rests),
-            None => false,
-        }
+        self.get(d, v).is_some_and(|(reason, rests)| !reason.meets(barred) && (resting || !rests))
     }
 }

@@ -1,9 +1,7 @@
-use Rattle.std.proofs.Common.{◌≡◌, ◌+◌, ◌-◌, List, length, take, refl, ap, ◌∙◌, arith}
+use Rattle.std.proofs.Common.{◌+◌, ◌-◌, length, take, refl, ap, ◌∙◌}
 use Rattle.arrayvec.proofs.ArrayVecLemmas.{items-with_items}
 use Rattle.sets.specs.Members.{members}
-use Rattle.tables.specs.Entries.{newest_first}
 use Rattle.tables.specs.Retreats.{swept}
-use Rattle.tables.specs.declared.entry.Entry.{Entry}
 use Rattle.tables.proofs.Parting.{retreat_none}
 use Rattle.tables.proofs.Sweeps.{sweep_retreats, sweep_known, sweep_proper, sweep_planned}
 use Rattle.tables.proofs.trail.Trail.retreat.Goals as goal
