@@ -15,6 +15,7 @@ use crate::planner::Planner;
 use account::State;
 use measure::Measure;
 use rules::{Decision, Kind, Refusal, Row, check_decisions};
+use scans::SuffixCosts;
 use sets::DecisionSet;
 use tables::{Exclusions, Trail};
 
@@ -33,7 +34,7 @@ impl<M: Measure> Planner<M> {
             exclusions: Exclusions::new(),
             best: None,
             state: State::Open,
-            costs: [M::neutral(); 257],
+            costs: SuffixCosts::new(),
         }
     }
 

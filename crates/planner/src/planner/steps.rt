@@ -8,7 +8,7 @@ ghost use Rattle.planner.specs.Planners.{account_of};
 
 use crate::pick::{pick_decision, support_of};
 use crate::planner::Planner;
-use crate::trials::try_values;
+use crate::trials::Trials;
 use crate::weighing::weigh;
 use account::State;
 use measure::Measure;
@@ -39,10 +39,7 @@ impl<M: Measure> Planner<M> {
     fn best_cost(&self) -> Option<M>
         ensures { result ≡ cost_held (account_of self.now).best }
     {
-        match self.best {
-            Some(best) => Some(best.cost),
-            None => None,
-        }
+        self.best.map(|best| best.cost)
     }
 
     /// A step that picks a decision: its values are tested, and the smallest free one enters the trail, or all are
@@ -53,18 +50,15 @@ impl<M: Measure> Planner<M> {
         ensures { account_of self.new ≡ extend M.meaning (account_of self.old) decision }
     {
         let size = self.book.size_of(decision);
-        let plan = *self.trail.plan();
         let best = self.best_cost();
-        try_values(
-            &self.book,
+        let plan = self.trail.plan();
+        let trials = Trials {
+            book: &self.book,
             best,
-            &mut self.costs,
-            &mut self.exclusions,
-            &plan,
             decision,
-            size,
-        );
-        let support = support_of(&self.book, &plan, decision);
+        };
+        trials.try_values(size, plan, &mut self.costs, &mut self.exclusions);
+        let support = support_of(&self.book, plan, decision);
         match self.exclusions.smallest_free(decision, size) {
             Some(value) => self.trail.push(decision, value, support),
             None => {
@@ -79,9 +73,8 @@ impl<M: Measure> Planner<M> {
     fn conclude(&mut self)
         ensures { account_of self.new ≡ conclude M.meaning (account_of self.old) }
     {
-        let plan = *self.trail.plan();
-        let held = self.best;
-        let (best, blamed) = weigh(&self.book, held, &mut self.costs, plan);
+        let plan = self.trail.plan();
+        let (best, blamed) = weigh(&self.book, self.best, plan, &mut self.costs);
         self.best = Some(best);
         self.retreat(blamed, true);
     }

@@ -19,13 +19,13 @@ push-requires g c =
 
 pub returns-in-Some : goal.returns-in-Some
 returns-in-Some g c =
-    entered g.M.Measure.meaning (account_of c.args.self.now) c.args.decision c.size_of-size.result c.best_cost-best.result (from_bytes c.plan.result.now) (exclusions_of c.try_values.new.exclusions)
-    c.size_of-size.ensures.value c.best_cost-best.ensures c.plan.ensures.value c.try_values.ensures.after c.in-Some.value (members c.support_of-support.result) (trail_of c.push.new.self)
+    entered g.M.Measure.meaning (account_of c.args.self.now) c.args.decision c.size_of-size.result c.best_cost-best.result (from_bytes c.plan-plan.result.now) (exclusions_of c.try_values.new.exclusions)
+    c.size_of-size.ensures.value c.best_cost-best.ensures c.plan-plan.ensures.value c.try_values.ensures c.in-Some.value (members c.support_of-support.result) (trail_of c.push.new.self)
     c.support_of-support.ensures c.in-Some.ensures c.push.ensures
 
 pub returns-in-None : goal.returns-in-None
 returns-in-None g c =
     c.retreat.ensures
-    ∙ stuck g.M.Measure.meaning (account_of c.args.self.now) c.args.decision c.size_of-size.result c.best_cost-best.result (from_bytes c.plan.result.now) (exclusions_of c.try_values.new.exclusions)
-    c.size_of-size.ensures.value c.best_cost-best.ensures c.plan.ensures.value c.try_values.ensures.after (members c.support_of-support.result) (members c.reasons_of.result) (members c.union-blamed.result)
+    ∙ stuck g.M.Measure.meaning (account_of c.args.self.now) c.args.decision c.size_of-size.result c.best_cost-best.result (from_bytes c.plan-plan.result.now) (exclusions_of c.try_values.new.exclusions)
+    c.size_of-size.ensures.value c.best_cost-best.ensures c.plan-plan.ensures.value c.try_values.ensures (members c.support_of-support.result) (members c.reasons_of.result) (members c.union-blamed.result)
     c.any_rests-rests.result c.support_of-support.ensures c.in-None.ensures c.reasons_of.ensures c.any_rests-rests.ensures c.union-blamed.ensures
