@@ -7,6 +7,7 @@ ghost use Rattle.account.specs.Steps.{any_rests, is_free, reason_of, reasons, re
 ghost use Rattle.sets.specs.Members.{members, values};
 ghost use Rattle.tables.specs.Excluded.{as_exclusion, cell_of, exclusions_of, spared, unless_meets};
 
+use crate::{Choice, Domain};
 use sets::{DecisionSet, ValueSet};
 
 /// For each of 64 decisions its excluded values, which of them rest on the best, and the reason of each: that of value
@@ -18,24 +19,23 @@ pub struct Exclusions {
     reasons: [u64; 1024],
 }
 
-/// Where the reason of a value stands.
-fn cell(d: u8, v: u8) -> usize
-    requires known { d < 64 }
-    requires low { 1 ≤ v }
-    requires high { v ≤ 16 }
-    ensures value { result ≡ cell_of d v }
+/// Where the reason of a choice stands.
+fn cell(choice: Choice) -> usize
+    ensures value { result ≡ cell_of choice.decision choice.value }
     ensures within { result < 1024 }
 {
-    16 * (d as usize) + (v as usize - 1)
+    16 * (choice.decision as usize) + (choice.value as usize - 1)
 }
 
-/// A set of values with one of them in it or out of it.
-fn marked(set: ValueSet, v: u8, mark: bool) -> ValueSet
-    requires low { 1 ≤ v }
-    requires high { v ≤ 16 }
-    ensures { values result ≡ (λ x. (if nat_eq x v then mark else values set x)) }
+/// A set of values with a chosen one in it or out of it.
+fn marked(set: ValueSet, choice: Choice, mark: bool) -> ValueSet
+    ensures { values result ≡ (λ x. (if nat_eq x choice.value then mark else values set x)) }
 {
-    if mark { set.with(v) } else { set.without(v) }
+    if mark {
+        set.with(choice.value)
+    } else {
+        set.without(choice.value)
+    }
 }
 
 impl Exclusions {
@@ -62,8 +62,12 @@ impl Exclusions {
         ensures { as_exclusion result ≡ exclusions_of self.now d v }
     {
         if d < 64 && self.excluded[d as usize].has(v) {
+            let choice = Choice {
+                decision: d,
+                value: v,
+            };
             let reason = DecisionSet {
-                bits: self.reasons[cell(d, v)],
+                bits: self.reasons[cell(choice)],
             };
             Some((reason, self.resting[d as usize].has(v)))
         } else {
@@ -71,53 +75,45 @@ impl Exclusions {
         }
     }
 
-    /// Excludes a value, in place of any exclusion that it has.
-    pub fn put(&mut self, d: u8, v: u8, reason: DecisionSet, rests: bool)
-        requires known { d < 64 }
-        requires low { 1 ≤ v }
-        requires high { v ≤ 16 }
-        ensures { exclusions_of self.new ≡ (λ x w. (if nat_eq x d && w == v then Some (record { reason = members reason; rests = rests }) else exclusions_of self.old x w)) }
+    /// Excludes a choice, in place of any exclusion that it has.
+    pub fn put(&mut self, choice: Choice, reason: DecisionSet, rests: bool)
+        ensures { exclusions_of self.new ≡ (λ x w. (if nat_eq x choice.decision && w == choice.value then Some (record { reason = members reason; rests = rests }) else exclusions_of self.old x w)) }
     {
-        let at = d as usize;
-        self.excluded[at] = self.excluded[at].with(v);
-        self.resting[at] = marked(self.resting[at], v, rests);
-        self.reasons[cell(d, v)] = reason.bits;
+        let at = choice.decision as usize;
+        self.excluded[at] = self.excluded[at].with(choice.value);
+        self.resting[at] = marked(self.resting[at], choice, rests);
+        self.reasons[cell(choice)] = reason.bits;
     }
 
-    /// The smallest of the values 1 to `size` that is not excluded.
-    pub fn smallest_free(&self, d: u8, size: u8) -> Option<u8>
-        requires known { d < 64 }
-        requires few { size ≤ 16 }
-        ensures { result ≡ smallest_free (exclusions_of self.now d) size }
+    /// The smallest of a domain's values that is not excluded.
+    pub fn smallest_free(&self, domain: Domain) -> Option<u8>
+        ensures { result ≡ smallest_free (exclusions_of self.now domain.decision) domain.size }
     {
-        self.excluded[d as usize].smallest_outside(size)
+        self.excluded[domain.decision as usize].smallest_outside(domain.size)
     }
 
-    /// How many of the values 1 to `size` are not excluded.
-    pub fn count_free(&self, d: u8, size: u8) -> u8
-        requires known { d < 64 }
-        requires few { size ≤ 16 }
-        ensures { result ≡ count_free (exclusions_of self.now d) size }
+    /// How many of a domain's values are not excluded.
+    pub fn count_free(&self, domain: Domain) -> u8
+        ensures { result ≡ count_free (exclusions_of self.now domain.decision) domain.size }
     {
-        self.excluded[d as usize].count_outside(size)
+        self.excluded[domain.decision as usize].count_outside(domain.size)
     }
 
-    /// All reasons of the values 1 to `size`.
-    pub fn reasons_of(&self, d: u8, size: u8) -> DecisionSet
-        requires known { d < 64 }
-        requires few { size ≤ 16 }
-        ensures { members result ≡ reasons (exclusions_of self.now d) size }
+    /// All reasons of a domain's values.
+    pub fn reasons_of(&self, domain: Domain) -> DecisionSet
+        ensures { members result ≡ reasons (exclusions_of self.now domain.decision) domain.size }
     {
-        (1..size + 1).fold(DecisionSet::empty(), |all, v| self.with_reason(all, d, v))
+        (1..domain.size + 1).fold(
+            DecisionSet::empty(),
+            |all, v| self.with_reason(all, domain.decision, v),
+        )
     }
 
-    /// Whether an exclusion of the values 1 to `size` rests on the best.
-    pub fn any_rests(&self, d: u8, size: u8) -> bool
-        requires known { d < 64 }
-        requires few { size ≤ 16 }
-        ensures { result ≡ any_rests (exclusions_of self.now d) size }
+    /// Whether an exclusion of a domain's values rests on the best.
+    pub fn any_rests(&self, domain: Domain) -> bool
+        ensures { result ≡ any_rests (exclusions_of self.now domain.decision) domain.size }
     {
-        (1..size + 1).any(|v| self.rests(d, v))
+        (1..domain.size + 1).any(|v| self.rests(domain.decision, v))
     }
 
     /// A set with the decisions of a value's reason, if it is excluded.

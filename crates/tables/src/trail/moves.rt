@@ -7,7 +7,7 @@ ghost use Rattle.tables.specs.Entries.{newest_first, proper};
 ghost use Rattle.tables.specs.Retreats.{Latest, Retreated, Sweeping, swept};
 ghost use Rattle.tables.specs.Trails.{trail_of};
 
-use crate::{Entry, Retreat, Trail};
+use crate::{Choice, Entry, Retreat, Trail};
 use arrayvec::ArrayVec;
 use sets::DecisionSet;
 
@@ -39,13 +39,11 @@ impl Trail {
     }
 
     /// Puts a decision that is not on the trail onto it.
-    pub fn push(&mut self, decision: u8, value: u8, support: DecisionSet)
-        requires known { decision < 64 }
-        requires some { 1 ≤ value }
-        requires few { value ≤ 16 }
-        requires idle { chosen (trail_of self.old) decision ≡ 0 }
-        ensures { trail_of self.new ≡ record { decision = decision; value = value; support = members support } ∷ trail_of self.old }
+    pub fn push(&mut self, choice: Choice, support: DecisionSet)
+        requires { chosen (trail_of self.old) choice.decision ≡ 0 }
+        ensures { trail_of self.new ≡ record { decision = choice.decision; value = choice.value; support = members support } ∷ trail_of self.old }
     {
+        let Choice { decision, value } = choice;
         self.entries.push(Entry {
             decision,
             value,

@@ -8,6 +8,6 @@ use Rattle.tables.proofs.exclusions.Exclusions.any_rests.Goals as goal
 
 pub returns : goal.returns
 returns c =
-    let ex = exclusions_of c.args.self.now c.args.d in
-    any_from_yields_List (λ v. rests_on (ex v)) _ _ c.any.result c.any.ensures.ran (YieldsList-from_range 1 (c.args.size + 1) c.args.size refl (omega arith)) (λ x b q k. search (rules, tests))
-    ∙ any_rests_is ex c.args.size
+    let ex = exclusions_of c.args.self.now c.args.domain.decision in
+    any_from_yields_List (λ v. rests_on (ex v)) _ _ c.any.result c.any.ensures.ran (YieldsList-from_range 1 (c.args.domain.size + 1) c.args.domain.size refl (omega arith)) (λ x b q k. search (rules, tests))
+    ∙ any_rests_is ex c.args.domain.size

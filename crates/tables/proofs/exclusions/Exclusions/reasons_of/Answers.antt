@@ -8,7 +8,7 @@ use Rattle.tables.proofs.exclusions.Exclusions.reasons_of.Goals as goal
 
 pub returns : goal.returns
 returns c =
-    let ex = exclusions_of c.args.self.now c.args.d in
-    kept_by_fold c.fold.ensures.ran _ (YieldsList-from_range 1 (c.args.size + 1) c.args.size refl (omega arith)) (λ vs all. members all ≡ gathered ex vs) c.empty.ensures
+    let ex = exclusions_of c.args.self.now c.args.domain.decision in
+    kept_by_fold c.fold.ensures.ran _ (YieldsList-from_range 1 (c.args.domain.size + 1) c.args.domain.size refl (omega arith)) (λ vs all. members all ≡ gathered ex vs) c.empty.ensures
     (λ vs all v more f' before k. (gathered_more ex vs v (members all) (members more) before (search rules), search rules))
-    ∙ gathered_is ex c.args.size
+    ∙ gathered_is ex c.args.domain.size

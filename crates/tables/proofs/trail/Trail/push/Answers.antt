@@ -8,14 +8,14 @@ use Rattle.tables.proofs.trail.Trail.push.Goals as goal
 pub push-requires : goal.push-requires
 push-requires c =
     let t = c.args.self.now in
-    let e : Entry = record { decision = c.args.decision; value = c.args.value; support = c.args.support } in
-    (omega arith, room t.entries.items (entry_of e) t.distinct (record { known = c.requires.known; some = c.requires.some; few = c.requires.few; idle = c.requires.idle }))
+    let e : Entry = record { decision = c.args.choice.decision; value = c.args.choice.value; support = c.args.support } in
+    (omega arith, room t.entries.items (entry_of e) t.distinct (record { known = c.args.choice.known; some = c.args.choice.some; few = c.args.choice.few; idle = c.requires }))
 
 pub invariant_of-self : goal.invariant_of-self
 invariant_of-self c =
     let t = c.args.self.now in
-    let e : Entry = record { decision = c.args.decision; value = c.args.value; support = c.args.support } in
-    let h : Enters (entry_of e) (newest_first t.entries.items) = record { known = c.requires.known; some = c.requires.some; few = c.requires.few; idle = c.requires.idle } in
+    let e : Entry = record { decision = c.args.choice.decision; value = c.args.choice.value; support = c.args.support } in
+    let h : Enters (entry_of e) (newest_first t.entries.items) = record { known = c.args.choice.known; some = c.args.choice.some; few = c.args.choice.few; idle = c.requires } in
     rw c.push.ensures.items
     (record {
       wide = length-set t.values e.decision e.value ∙ t.wide;
@@ -25,5 +25,5 @@ invariant_of-self c =
 
 pub returns : goal.returns
 returns c =
-    let e : Entry = record { decision = c.args.decision; value = c.args.value; support = c.args.support } in
+    let e : Entry = record { decision = c.args.choice.decision; value = c.args.choice.value; support = c.args.support } in
     ap newest_first c.push.ensures.items ∙ entries_pushed c.args.self.now.entries.items e
