@@ -11,14 +11,14 @@ use measure::Measure;
 use rules::Kind;
 use scans::{SuffixCosts, first_met, named};
 use sets::DecisionSet;
-use tables::Exclusions;
+use tables::{Choice, Domain, Exclusions};
 
 /// What the values of a decision are tested by: the rules, and the best's cost if one is held.
 #[derive(Clone, Copy)]
 pub struct Trials<'a, M> {
     pub book: &'a Book,
     pub best: Option<M>,
-    pub decision: u8,
+    pub domain: Domain,
 }
 
 impl<M: Measure> Trials<'_, M> {
@@ -30,7 +30,7 @@ impl<M: Measure> Trials<'_, M> {
         plan: &[u8],
         costs: &mut SuffixCosts<M>,
     ) -> Option<(DecisionSet, bool)>
-        ensures { as_exclusion result ≡ by_cost M.meaning (book_of self.now.book.now) self.now.decision (from_bytes plan.now) (Some best) }
+        ensures { as_exclusion result ≡ by_cost M.meaning (book_of self.now.book.now) self.now.domain.decision (from_bytes plan.now) (Some best) }
     {
         let rows = self.book.rows(Kind::Price);
         let cost = costs.fill(rows, plan);
@@ -38,15 +38,15 @@ impl<M: Measure> Trials<'_, M> {
             return None;
         }
         let reason = costs.kept_named(rows, plan, best);
-        Some((reason.without(self.decision), true))
+        Some((reason.without(self.domain.decision), true))
     }
 
     /// Why a plan is excluded, as far as the decision goes: by the first forbid rule that it meets, else by its cost.
     fn try_plan(&self, plan: &[u8], costs: &mut SuffixCosts<M>) -> Option<(DecisionSet, bool)>
-        ensures { as_exclusion result ≡ try_plan M.meaning (book_of self.now.book.now) self.now.best self.now.decision (from_bytes plan.now) }
+        ensures { as_exclusion result ≡ try_plan M.meaning (book_of self.now.book.now) self.now.best self.now.domain.decision (from_bytes plan.now) }
     {
         if let Some(row) = first_met(self.book.rows(Kind::Forbid), plan) {
-            return Some((named(row).without(self.decision), false));
+            return Some((named(row).without(self.domain.decision), false));
         }
         let best = self.best?;
         self.try_cost(best, plan, costs)
@@ -60,34 +60,34 @@ impl<M: Measure> Trials<'_, M> {
         costs: &mut SuffixCosts<M>,
         exclusions: &mut Exclusions,
     )
-        requires known { self.now.decision < 64 }
         requires low { 1 ≤ value }
-        requires high { value ≤ 16 }
-        ensures { exclusions_of exclusions.new ≡ (λ x w. or_tried (exclusions_of exclusions.old x w) (x == self.now.decision && w == value) (try_plan M.meaning (book_of self.now.book.now) self.now.best self.now.decision (from_bytes plan.now))) }
+        requires high { value ≤ self.now.domain.size }
+        ensures { exclusions_of exclusions.new ≡ (λ x w. or_tried (exclusions_of exclusions.old x w) (x == self.now.domain.decision && w == value) (try_plan M.meaning (book_of self.now.book.now) self.now.best self.now.domain.decision (from_bytes plan.now))) }
     {
-        if exclusions.get(self.decision, value).is_some() {
+        if exclusions.get(self.domain.decision, value).is_some() {
             return;
         }
         if let Some((reason, rests)) = self.try_plan(plan, costs) {
-            exclusions.put(self.decision, value, reason, rests);
+            let choice = Choice {
+                decision: self.domain.decision,
+                value,
+            };
+            exclusions.put(choice, reason, rests);
         }
     }
 
-    /// Tests the values 1 to `size` that are not excluded, each in the plan.
+    /// Tests the domain's values that are not excluded, each in the plan.
     pub fn try_values(
         &self,
-        size: u8,
         plan: &[u8; 64],
         costs: &mut SuffixCosts<M>,
         exclusions: &mut Exclusions,
     )
-        requires known { self.now.decision < 64 }
-        requires few { size ≤ 16 }
-        ensures { exclusions_of exclusions.new ≡ tried_to M.meaning (book_of self.now.book.now) self.now.best (from_bytes plan.now) (exclusions_of exclusions.old) self.now.decision size }
+        ensures { exclusions_of exclusions.new ≡ tried_to M.meaning (book_of self.now.book.now) self.now.best (from_bytes plan.now) (exclusions_of exclusions.old) self.now.domain.decision self.now.domain.size }
     {
         let mut trial = *plan;
-        for v in 1..=size {
-            trial[self.decision as usize] = v;
+        for v in 1..=self.domain.size {
+            trial[self.domain.decision as usize] = v;
             self.try_value(v, &trial, costs, exclusions);
         }
     }

@@ -12,7 +12,7 @@ ghost use Rattle.planner.specs.Books.{book_of, over_decisions, with_decisions};
 use crate::book::Book;
 use arrayvec::ArrayVec;
 use rules::{Decision, Kind, Row};
-use tables::RuleTable;
+use tables::{Domain, RuleTable};
 
 impl Book {
     /// A book of no decisions and no rules.
@@ -57,13 +57,14 @@ impl Book {
         self.decisions.as_slice()
     }
 
-    /// How many values a decision has.
-    pub fn size_of(&self, decision: u8) -> u8
+    /// The domain of a decision.
+    pub fn domain(&self, decision: u8) -> Domain
         requires { decision < length (book_of self.now).decisions }
-        ensures value { result ≡ size_at (book_of self.now).decisions decision }
-        ensures few { result ≤ 16 }
+        ensures same { result.decision ≡ decision }
+        ensures size { result.size ≡ size_at (book_of self.now).decisions decision }
     {
-        self.decisions()[decision as usize].size
+        let size = self.decisions()[decision as usize].size;
+        Domain { decision, size }
     }
 
     /// The table of the rules of a kind.

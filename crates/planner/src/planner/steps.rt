@@ -13,6 +13,7 @@ use crate::weighing::weigh;
 use account::State;
 use measure::Measure;
 use sets::DecisionSet;
+use tables::Choice;
 
 impl<M: Measure> Planner<M> {
     /// Retreats from a blame: the latest blamed entry leaves, with what rested on it for support, and its value is
@@ -24,12 +25,12 @@ impl<M: Measure> Planner<M> {
             Some(retreat) => {
                 let culprit = retreat.culprit;
                 self.exclusions.forget(retreat.left);
-                self.exclusions.put(
-                    culprit.decision,
-                    culprit.value,
-                    blamed.without(culprit.decision),
-                    rests,
-                );
+                let choice = Choice {
+                    decision: culprit.decision,
+                    value: culprit.value,
+                };
+                let reason = blamed.without(culprit.decision);
+                self.exclusions.put(choice, reason, rests);
             }
             None => self.state = State::Settled,
         }
@@ -49,21 +50,21 @@ impl<M: Measure> Planner<M> {
         requires idle { chosen (account_of self.old).trail decision ≡ 0 }
         ensures { account_of self.new ≡ extend M.meaning (account_of self.old) decision }
     {
-        let size = self.book.size_of(decision);
+        let domain = self.book.domain(decision);
         let best = self.best_cost();
         let plan = self.trail.plan();
         let trials = Trials {
             book: &self.book,
             best,
-            decision,
+            domain,
         };
-        trials.try_values(size, plan, &mut self.costs, &mut self.exclusions);
+        trials.try_values(plan, &mut self.costs, &mut self.exclusions);
         let support = support_of(&self.book, plan, decision);
-        match self.exclusions.smallest_free(decision, size) {
-            Some(value) => self.trail.push(decision, value, support),
+        match self.exclusions.smallest_free(domain) {
+            Some(value) => self.trail.push(Choice { decision, value }, support),
             None => {
-                let blamed = self.exclusions.reasons_of(decision, size).union(support);
-                let rests = self.exclusions.any_rests(decision, size);
+                let blamed = self.exclusions.reasons_of(domain).union(support);
+                let rests = self.exclusions.any_rests(domain);
                 self.retreat(blamed, rests);
             }
         }

@@ -6,10 +6,10 @@ use Rattle.planner.proofs.trials.Trials.try_cost.Goals as goal
 
 pub returns-then-not-reaches : goal.returns-then-not-reaches
 returns-then-not-reaches g c =
-    cost_miss g.M.Measure.meaning (book_of c.args.self.now.book.now) c.args.self.now.decision (from_bytes c.args.plan.now) c.args.best c.fill-cost.result c.rows-rows.result.now c.rows-rows.ensures.value
+    cost_miss g.M.Measure.meaning (book_of c.args.self.now.book.now) c.args.self.now.domain.decision (from_bytes c.args.plan.now) c.args.best c.fill-cost.result c.rows-rows.result.now c.rows-rows.ensures.value
     c.fill-cost.ensures.total c.if-not-reaches.ensures
 
 pub returns : goal.returns
 returns g c =
-    cost_hit g.M.Measure.meaning (book_of c.args.self.now.book.now) c.args.self.now.decision (from_bytes c.args.plan.now) c.args.best c.fill-cost.result c.rows-rows.result.now (members c.kept_named-reason.result)
+    cost_hit g.M.Measure.meaning (book_of c.args.self.now.book.now) c.args.self.now.domain.decision (from_bytes c.args.plan.now) c.args.best c.fill-cost.result c.rows-rows.result.now (members c.kept_named-reason.result)
     (members c.without.result) c.rows-rows.ensures.value c.fill-cost.ensures.total c.if-not-reaches.ensures c.kept_named-reason.ensures c.without.ensures

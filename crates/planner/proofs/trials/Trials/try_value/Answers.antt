@@ -9,6 +9,6 @@ use Rattle.planner.proofs.trials.Trials.try_value.Goals as goal
 pub returns-then-is_some : goal.returns-then-is_some
 returns-then-is_some g c =
     let ex = exclusions_of c.args.exclusions.now in
-    let t = try_plan g.M.Measure.meaning (book_of c.args.self.now.book.now) c.args.self.now.best c.args.self.now.decision (from_bytes c.args.plan.now) in
-    let held = some_exclusion c.get.result (ex c.args.self.now.decision c.args.value) (sym c.if-is_some.ensures) c.get.ensures in
-    tried_already ex c.args.self.now.decision c.args.value t held.0 held.1
+    let t = try_plan g.M.Measure.meaning (book_of c.args.self.now.book.now) c.args.self.now.best c.args.self.now.domain.decision (from_bytes c.args.plan.now) in
+    let held = some_exclusion c.get.result (ex c.args.self.now.domain.decision c.args.value) (sym c.if-is_some.ensures) c.get.ensures in
+    tried_already ex c.args.self.now.domain.decision c.args.value t held.0 held.1

@@ -9,8 +9,8 @@ use Rattle.planner.proofs.trials.Trials.try_values.Given as goal
 abbrev pub invariant-loop-v : goal.invariant-loop-v
 invariant-loop-v g l =
     record {
-      most : l.v ≤ l.size + 1;
+      most : l.v ≤ l.self.domain.size + 1;
       wide : length l.trial ≡ 64;
-      but : But l.trial l.plan l.self.decision;
-      tried : exclusions_of l.exclusions ≡ tried_to g.M.Measure.meaning (book_of l.self.book.now) l.self.best (from_bytes l.plan) (exclusions_of l.initial.exclusions) l.self.decision (l.v - 1);
+      but : But l.trial l.plan l.self.domain.decision;
+      tried : exclusions_of l.exclusions ≡ tried_to g.M.Measure.meaning (book_of l.self.book.now) l.self.best (from_bytes l.plan) (exclusions_of l.initial.exclusions) l.self.domain.decision (l.v - 1);
     }
