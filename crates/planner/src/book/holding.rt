@@ -15,6 +15,9 @@ use rules::{Decision, Kind, Row};
 use tables::{Domain, RuleTable};
 
 impl Book {
+    ghost use Rattle.std.specs.Borrow.{sem};
+    ghost use Rattle.planner.specs.Lending.{LendsTable};
+
     /// A book of no decisions and no rules.
     pub fn new() -> Book
         ensures { book_of result ≡ over_decisions [] }
@@ -78,6 +81,18 @@ impl Book {
         }
     }
 
+    /// The table of the rules of a kind, for changes.
+    fn table_mut(&mut self, kind: Kind) -> &mut RuleTable
+        ensures* writes_back { sem 𝓛 (LendsTable self.entry kind result) }
+        ensures value { table_rows result.now ≡ held (book_of self.old) kind }
+    {
+        match kind {
+            Kind::Forbid => &mut self.forbids,
+            Kind::Activate => &mut self.activates,
+            Kind::Price => &mut self.prices,
+        }
+    }
+
     /// The rules of a kind, in place order.
     pub fn rows(&self, kind: Kind) -> &[Row]
         ensures value { result.now ≡ held (book_of self.now) kind }
@@ -94,11 +109,7 @@ impl Book {
         requires room { length (held (book_of self.old) row.kind) < 256 }
         ensures { book_of self.new ≡ with_rules (book_of self.old) row.kind (held (book_of self.old) row.kind ++ row ∷ []) }
     {
-        match row.kind {
-            Kind::Forbid => self.forbids.push(row),
-            Kind::Activate => self.activates.push(row),
-            Kind::Price => self.prices.push(row),
-        }
+        self.table_mut(row.kind).push(row);
     }
 
     /// Takes out the rule of a kind at a place; later ones of the kind move down by one.
@@ -106,10 +117,6 @@ impl Book {
         requires { place < length (held (book_of self.old) kind) }
         ensures { book_of self.new ≡ with_rules (book_of self.old) kind (remove (held (book_of self.old) kind) place) }
     {
-        match kind {
-            Kind::Forbid => self.forbids.remove(place),
-            Kind::Activate => self.activates.remove(place),
-            Kind::Price => self.prices.remove(place),
-        }
+        self.table_mut(kind).remove(place);
     }
 }
