@@ -1,4 +1,5 @@
 pub mod Accounts
+pub mod States
 pub mod Steps
 pub mod Changes
 pub mod Calls

@@ -106,12 +106,6 @@ module _ {C : Type 0} (m : Meaning C) (a : Account C) where
       let (told, left) = accepts m a (run budget) (ap (λ (t : Bool). when t BudgetTooLarge) (le-ltb 1000000 budget low)) in
       (ap₂ (λ (n : ℕ) (x : Account C). ran n x.state) count e ∙ told, e ∙ left)
 
-  -- it stopped for want of budget
-  pub spent : (budget k : ℕ) (b : Account C) → k ≤ budget → budget ≤ k → b ≡ advance m k a → k ≡ made m k a → (b ≡ advance m budget a) × (k ≡ made m budget a)
-  spent budget k b l g e count =
-      let same : k ≡ budget = omega arith in
-      (e ∙ ap (λ (n : ℕ). advance m n a) same, count ∙ ap (λ (n : ℕ). made m n a) same)
-
   -- a call that a ground refuses
   pub refuses : (c : Call) (e : Refusal) → refusal a c ≡ Some e → (refused e ≡ answer m a c) × (a ≡ after m a c)
   refuses c e h = (ap (answer_if m a c) (sym h), ap (after_if m a c) (sym h))

@@ -1,5 +1,5 @@
 -- The book that the tables of a planner stand for.
-use Rattle.std.specs.Prelude.{List, [], take}
+use Rattle.std.specs.Prelude.{List, []}
 use Rattle.rules.specs.Plans.{Book as Rulebook}
 use Rattle.rules.specs.declared.decision.Decision.{Decision}
 use Rattle.tables.specs.Tables.{table_rows}
@@ -9,7 +9,7 @@ use Rattle.planner.specs.declared.book.Book.{Book}
 abbrev pub book_of : Book → Rulebook
 book_of b =
     record {
-      decisions = take b.count b.decisions;
+      decisions = b.decisions.items;
       forbids = table_rows b.forbids;
       activates = table_rows b.activates;
       prices = table_rows b.prices;

@@ -1,7 +1,8 @@
 //! The decisions and rules that a planner holds.
-ghost use Rattle.std.specs.Prelude.{◌≡◌, ◌≤◌, true, length, take};
+ghost use Rattle.std.specs.Prelude.{◌≡◌, ◌≤◌, true, length};
 ghost use Rattle.rules.specs.Judging.{sized};
 
+use arrayvec::ArrayVec;
 use rules::Decision;
 use tables::RuleTable;
 
@@ -10,12 +11,10 @@ mod holding;
 /// Up to 64 decisions of 1 to 16 values, and the rules of each kind.
 #[derive(Drop)]
 pub struct Book {
-    decisions: [Decision; 64],
-    count: usize,
+    decisions: ArrayVec<Decision, 64>,
     forbids: RuleTable,
     activates: RuleTable,
     prices: RuleTable,
-    ghost few: { count ≤ 64 },
-    ghost full: { length decisions ≡ 64 },
-    ghost sizes: { sized (take count decisions) ≡ true },
+    ghost few: { length decisions.items ≤ 64 },
+    ghost sizes: { sized decisions.items ≡ true },
 }

@@ -12,16 +12,15 @@ use sets::DecisionSet;
 
 /// The decision that a step picks: of those that wait, the one of lowest rank, then lowest number.
 pub fn pick_decision(book: &Book, ranks: &[u8; 64], plan: &[u8]) -> Option<u8>
-    requires ranked { length ranks.now ≡ 64 }
     ensures { result ≡ pick (from_bytes ranks.now) (waits (book_of book.now) (from_bytes plan.now)) (length (book_of book.now).decisions) }
 {
     let decisions = book.decisions();
     let targets = enabled(book.rows(Kind::Activate), plan);
     let mut picked = None;
-    for i in 0..decisions.len() as u8 {
-        let on = decisions[i as usize].on;
-        let waiting = is_waiting(plan, i, on, targets);
-        picked = preferred(ranks, waiting, i, picked);
+    for (i, decision) in decisions.iter().enumerate() {
+        let number = i as u8;
+        let waiting = is_waiting(plan, number, decision.on, targets);
+        picked = preferred(ranks, waiting, number, picked);
     }
     picked
 }
@@ -35,7 +34,6 @@ fn is_waiting(plan: &[u8], decision: u8, on: bool, targets: DecisionSet) -> bool
 
 /// Of a waiting decision and what was preferred so far, the one of lower rank; the earlier between equals.
 fn preferred(ranks: &[u8; 64], waiting: bool, decision: u8, picked: Option<u8>) -> Option<u8>
-    requires ranked { length ranks.now ≡ 64 }
     requires known { decision < 64 }
     requires low { IfSome picked (λ d. d < 64) }
     ensures { result ≡ prefer (from_bytes ranks.now) waiting decision picked }

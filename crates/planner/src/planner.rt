@@ -4,6 +4,7 @@ ghost use Rattle.std.specs.Prelude.{◌≡◌, length};
 use crate::best::Best;
 use crate::book::Book;
 use account::State;
+use scans::SuffixCosts;
 use tables::{Exclusions, Trail};
 
 mod calls;
@@ -20,7 +21,6 @@ pub struct Planner<M> {
     best: Option<Best<M>>,
     state: State,
     /// What the price rules from each place on cost the plan that is looked at.
-    costs: [M; 257],
+    costs: SuffixCosts<M>,
     ghost ranked: { length ranks ≡ 64 },
-    ghost priced: { length costs ≡ 257 },
 }

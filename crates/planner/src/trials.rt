@@ -1,5 +1,5 @@
 //! The tests of a decision's values.
-ghost use Rattle.std.specs.Prelude.{◌≡◌, ◌<◌, ◌≤◌, ◌&&◌, length, Some, ◌==◌};
+ghost use Rattle.std.specs.Prelude.{◌≡◌, ◌<◌, ◌≤◌, ◌&&◌, Some, ◌==◌};
 ghost use Rattle.rules.specs.Conditions.{from_bytes};
 ghost use Rattle.tables.specs.Excluded.{as_exclusion, exclusions_of};
 ghost use Rattle.planner.specs.Books.{book_of};
@@ -9,98 +9,86 @@ use crate::book::Book;
 use crate::reaching::reaches;
 use measure::Measure;
 use rules::Kind;
-use scans::{first_met, kept_named, named, price_suffixes};
+use scans::{SuffixCosts, first_met, named};
 use sets::DecisionSet;
-use tables::Exclusions;
+use tables::{Choice, Domain, Exclusions};
 
-/// Why a plan is excluded by its cost, as far as `decision` goes: it reaches the best's, for the other decisions of the
-/// kept price rules.
-fn try_cost<M: Measure>(
-    book: &Book,
-    best: M,
-    costs: &mut [M; 257],
-    decision: u8,
-    plan: &[u8],
-) -> Option<(DecisionSet, bool)>
-    requires long { length costs.old ≡ 257 }
-    ensures long { length costs.new ≡ 257 }
-    ensures value { as_exclusion result ≡ by_cost M.meaning (book_of book.now) decision (from_bytes plan.now) (Some best) }
-{
-    let rows = book.rows(Kind::Price);
-    price_suffixes(rows, plan, costs);
-    if !reaches(best, costs[0]) {
-        return None;
-    }
-    let reason = kept_named(rows, plan, best, costs);
-    Some((reason.without(decision), true))
+/// What the values of a decision are tested by: the rules, and the best's cost if one is held.
+#[derive(Clone, Copy)]
+pub struct Trials<'a, M> {
+    pub book: &'a Book,
+    pub best: Option<M>,
+    pub domain: Domain,
 }
 
-/// Why a plan is excluded, as far as `decision` goes: by the first forbid rule that it meets, else by its cost.
-fn try_plan<M: Measure>(
-    book: &Book,
-    best: Option<M>,
-    costs: &mut [M; 257],
-    decision: u8,
-    plan: &[u8],
-) -> Option<(DecisionSet, bool)>
-    requires long { length costs.old ≡ 257 }
-    ensures long { length costs.new ≡ 257 }
-    ensures value { as_exclusion result ≡ try_plan M.meaning (book_of book.now) best decision (from_bytes plan.now) }
-{
-    if let Some(row) = first_met(book.rows(Kind::Forbid), plan) {
-        return Some((named(row).without(decision), false));
+impl<M: Measure> Trials<'_, M> {
+    /// Why a plan is excluded by its cost, as far as the decision goes: it reaches the best's, for the other decisions
+    /// of the kept price rules.
+    fn try_cost(
+        &self,
+        best: M,
+        plan: &[u8],
+        costs: &mut SuffixCosts<M>,
+    ) -> Option<(DecisionSet, bool)>
+        ensures { as_exclusion result ≡ by_cost M.meaning (book_of self.now.book.now) self.now.domain.decision (from_bytes plan.now) (Some best) }
+    {
+        let rows = self.book.rows(Kind::Price);
+        let cost = costs.fill(rows, plan);
+        if !reaches(best, cost) {
+            return None;
+        }
+        let reason = costs.kept_named(rows, plan, best);
+        Some((reason.without(self.domain.decision), true))
     }
-    match best {
-        Some(cost) => try_cost(book, cost, costs, decision, plan),
-        None => None,
-    }
-}
 
-/// Tests a value, in a plan with it in, unless it is excluded already.
-fn try_value<M: Measure>(
-    book: &Book,
-    best: Option<M>,
-    costs: &mut [M; 257],
-    exclusions: &mut Exclusions,
-    decision: u8,
-    value: u8,
-    plan: &[u8],
-)
-    requires long { length costs.old ≡ 257 }
-    requires known { decision < 64 }
-    requires low { 1 ≤ value }
-    requires high { value ≤ 16 }
-    ensures long { length costs.new ≡ 257 }
-    ensures after { exclusions_of exclusions.new ≡ (λ x w. or_tried (exclusions_of exclusions.old x w) (x == decision && w == value) (try_plan M.meaning (book_of book.now) best decision (from_bytes plan.now))) }
-{
-    if exclusions.get(decision, value).is_some() {
-        return;
+    /// Why a plan is excluded, as far as the decision goes: by the first forbid rule that it meets, else by its cost.
+    fn try_plan(&self, plan: &[u8], costs: &mut SuffixCosts<M>) -> Option<(DecisionSet, bool)>
+        ensures { as_exclusion result ≡ try_plan M.meaning (book_of self.now.book.now) self.now.best self.now.domain.decision (from_bytes plan.now) }
+    {
+        if let Some(row) = first_met(self.book.rows(Kind::Forbid), plan) {
+            return Some((named(row).without(self.domain.decision), false));
+        }
+        let best = self.best?;
+        self.try_cost(best, plan, costs)
     }
-    if let Some((reason, rests)) = try_plan(book, best, costs, decision, plan) {
-        exclusions.put(decision, value, reason, rests);
-    }
-}
 
-/// Tests the values 1 to `size` of a decision that are not excluded.
-pub fn try_values<M: Measure>(
-    book: &Book,
-    best: Option<M>,
-    costs: &mut [M; 257],
-    exclusions: &mut Exclusions,
-    plan: &[u8; 64],
-    decision: u8,
-    size: u8,
-)
-    requires long { length costs.old ≡ 257 }
-    requires wide { length plan.now ≡ 64 }
-    requires known { decision < 64 }
-    requires few { size ≤ 16 }
-    ensures long { length costs.new ≡ 257 }
-    ensures after { exclusions_of exclusions.new ≡ tried_to M.meaning (book_of book.now) best (from_bytes plan.now) (exclusions_of exclusions.old) decision size }
-{
-    let mut trial = *plan;
-    for v in 1..size + 1 {
-        trial[decision as usize] = v;
-        try_value(book, best, costs, exclusions, decision, v, &trial);
+    /// Tests a value, in a plan with it in, unless it is excluded already.
+    fn try_value(
+        &self,
+        value: u8,
+        plan: &[u8],
+        costs: &mut SuffixCosts<M>,
+        exclusions: &mut Exclusions,
+    )
+        requires low { 1 ≤ value }
+        requires high { value ≤ self.now.domain.size }
+        ensures { exclusions_of exclusions.new ≡ (λ x w. or_tried (exclusions_of exclusions.old x w) (x == self.now.domain.decision && w == value) (try_plan M.meaning (book_of self.now.book.now) self.now.best self.now.domain.decision (from_bytes plan.now))) }
+    {
+        if exclusions.get(self.domain.decision, value).is_some() {
+            return;
+        }
+        if let Some((reason, rests)) = self.try_plan(plan, costs) {
+            let choice = Choice {
+                decision: self.domain.decision,
+                value,
+            };
+            exclusions.put(choice, reason, rests);
+        }
+    }
+
+    /// Tests the domain's values that are not excluded, each in the plan.
+    pub fn try_values(
+        &self,
+        plan: &[u8; 64],
+        costs: &mut SuffixCosts<M>,
+        exclusions: &mut Exclusions,
+    )
+        ensures { exclusions_of exclusions.new ≡ tried_to M.meaning (book_of self.now.book.now) self.now.best (from_bytes plan.now) (exclusions_of exclusions.old) self.now.domain.decision self.now.domain.size }
+    {
+        let mut trial = *plan;
+        for v in 1..=self.domain.size {
+            trial[self.domain.decision as usize] = v;
+            self.try_value(v, &trial, costs, exclusions);
+        }
     }
 }

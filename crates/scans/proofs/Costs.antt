@@ -1,7 +1,8 @@
 -- What rows from each place on cost, as a loop from the last place works it out.
-use Rattle.std.proofs.Common.{◌≡◌, ℕ, ◌+◌, ◌-◌, ◌<◌, ◌≤◌, List, length, get_or, drop, set, sym, ap, ◌∙◌, ⊎_elim, arith, get_or-set_other, get_or-set_same}
-use Rattle.std.proofs.lemmas.List.{at_drop_more, at_drop_all}
+use Rattle.std.proofs.Common.{◌≡◌, ℕ, ◌+◌, ◌<◌, List, [], ◌∷◌, ◌++◌, length, drop, set, sym, ap, ◌∙◌, ⊎_elim, append_assoc, arith, get_or-set_other, get_or-set_same}
+use Rattle.std.proofs.Math.Seq.{drop-append_seam}
 use Rattle.std.proofs.lemmas.Bool.{cases_eq}
+use Rattle.std.specs.List.{push}
 use Rattle.measure.specs.Meaning.{Meaning}
 use Rattle.rules.specs.Conditions.{Plan}
 use Rattle.rules.specs.Plans.{cost}
@@ -9,25 +10,16 @@ use Rattle.rules.specs.declared.row.Row.{Row}
 use Rattle.scans.specs.Suffixes.{Suffixes, priced}
 
 module _ {C : Type 0} (m : Meaning C) (rs : List Row) (p : Plan) where
-  -- one row in front of what comes after
-  cost_at : (i : ℕ) (d : Row) → i < length rs → cost m (drop i rs) p ≡ priced m p (get_or rs i d) (cost m (drop (i + 1) rs) p)
-  cost_at i d l = at_drop_more (λ (xs : List Row). cost m xs p) rs i d l
-
-  pub cost_before : (i : ℕ) (d : Row) → i < length rs → (c later : C) → c ≡ priced m p (get_or rs i d) later → later ≡ cost m (drop (i + 1) rs) p → c ≡ cost m (drop i rs) p
-  cost_before i d l c later e f = e ∙ ap (priced m p (get_or rs i d)) f ∙ sym (cost_at i d l)
-
-  -- past the last row the cost is neutral
-  pub cost_none : (c : C) → c ≡ m.neutral → c ≡ cost m (drop (length rs) rs) p
-  cost_none c e = e ∙ sym (at_drop_all (λ (xs : List Row). cost m xs p) rs (length rs) (omega arith))
-
-  -- past the last row stands neutral
-  pub suffixes_none : (costs : List C) (c : C) → length rs < length costs → c ≡ m.neutral → Suffixes m rs p (set costs (length rs) c) (length rs)
-  suffixes_none costs c room e k d low high =
-      let same : k ≡ length rs = omega arith in
-      rw same (get_or-set_same costs (length rs) c d room ∙ e ∙ sym (at_drop_all (λ (xs : List Row). cost m xs p) rs (length rs) (omega arith)))
+  -- the last of the rows in front goes behind
+  pub cost_before : (front : List Row) (r : Row) (n : ℕ) (c later : C) → rs ≡ push front r ++ drop n rs → c ≡ priced m p r later → later ≡ cost m (drop n rs) p
+      → (rs ≡ front ++ drop (length front) rs) × (c ≡ cost m (drop (length front) rs) p)
+  cost_before front r n c later split e f =
+      let all : rs ≡ front ++ (r ∷ drop n rs) = split ∙ append_assoc front (r ∷ []) (drop n rs) in
+      let behind : drop (length front) rs ≡ r ∷ drop n rs = ap (drop (length front)) all ∙ drop-append_seam front (r ∷ drop n rs) in
+      (all ∙ ap (λ (xs : List Row). front ++ xs) (sym behind), e ∙ ap (priced m p r) f ∙ ap (λ (xs : List Row). cost m xs p) (sym behind))
 
   -- one place more in front
-  pub suffixes_more : (costs : List C) (c : C) (j : ℕ) → 0 < j → j ≤ length rs → length rs < length costs → c ≡ cost m (drop (j - 1) rs) p → Suffixes m rs p costs j → Suffixes m rs p (set costs (j - 1) c) (j - 1)
-  suffixes_more costs c j pos most room e old k d low high =
-      ⊎_elim (λ (same : k ≡ j - 1). rw same (get_or-set_same costs (j - 1) c d (omega arith) ∙ e))
-      (λ (ne : k ≡ j - 1 → ⊥). get_or-set_other costs (j - 1) k c d ne ∙ old k d (omega arith) high) (cases_eq k (j - 1))
+  pub suffixes_more : (costs : List C) (c : C) (i : ℕ) → i < length costs → c ≡ cost m (drop i rs) p → Suffixes m rs p costs (i + 1) → Suffixes m rs p (set costs i c) i
+  suffixes_more costs c i room e old k d low high =
+      ⊎_elim (λ (same : k ≡ i). rw same (get_or-set_same costs i c d room ∙ e))
+      (λ (ne : k ≡ i → ⊥). get_or-set_other costs i k c d ne ∙ old k d (omega arith) high) (cases_eq k i)

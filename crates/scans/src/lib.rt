@@ -11,4 +11,4 @@ pub use activates::{enabled, enabler};
 pub use forbids::first_met;
 pub use lawful::is_lawful;
 pub use names::named;
-pub use prices::{kept_named, price_suffixes};
+pub use prices::SuffixCosts;

@@ -2,6 +2,7 @@
 ghost use Rattle.std.specs.Prelude.{◌≡◌, ◌≤◌, not, ◌&&◌, length};
 ghost use Rattle.account.specs.Steps.{kept, named_in};
 ghost use Rattle.rules.specs.Conditions.{from_bytes, met};
+ghost use Rattle.rules.specs.Plans.{cost};
 ghost use Rattle.sets.specs.Members.{members};
 ghost use Rattle.scans.specs.Known.{Known};
 ghost use Rattle.scans.specs.Suffixes.{Suffixes, priced};
@@ -11,18 +12,52 @@ use measure::Measure;
 use rules::Row;
 use sets::DecisionSet;
 
-/// What the rows from each place on cost a plan, into the place of the same number; past the last stands neutral.
-pub fn price_suffixes<M: Measure>(rows: &[Row], plan: &[u8], after: &mut [M; 257])
-    requires few { length rows.now ≤ 256 }
-    requires long { length after.old ≡ 257 }
-    ensures long { length after.new ≡ 257 }
-    ensures value { Suffixes M.meaning rows.now (from_bytes plan.now) after.new 0 }
-{
-    let mut cost = M::neutral();
-    after[rows.len()] = cost;
-    for i in (0..rows.len()).rev() {
-        cost = price_before(&rows[i], plan, cost);
-        after[i] = cost;
+/// What the price rules from each place on cost a plan; past the last stands neutral.
+#[derive(Drop)]
+pub struct SuffixCosts<M> {
+    after: [M; 257],
+}
+
+impl<M: Measure> SuffixCosts<M> {
+    /// What no rules cost.
+    pub fn new() -> SuffixCosts<M> {
+        SuffixCosts {
+            after: [M::neutral(); 257],
+        }
+    }
+
+    /// Works out what the rows from each place on cost a plan, and answers what all of them do.
+    pub fn fill(&mut self, rows: &[Row], plan: &[u8]) -> M
+        requires { length rows.now ≤ 256 }
+        ensures total { result ≡ cost M.meaning rows.now (from_bytes plan.now) }
+        ensures places { Suffixes M.meaning rows.now (from_bytes plan.now) self.new.after 0 }
+    {
+        let mut cost = M::neutral();
+        self.after[rows.len()] = cost;
+        for (i, row) in rows.iter().enumerate().rev() {
+            cost = price_before(row, plan, cost);
+            self.after[i] = cost;
+        }
+        cost
+    }
+
+    /// The decisions that the kept price rules name: in place order, one is dropped if those kept before it and those
+    /// met after it still reach the best's cost.
+    pub fn kept_named(&self, rows: &[Row], plan: &[u8], best: M) -> DecisionSet
+        requires few { length rows.now ≤ 256 }
+        requires known { Known rows.now }
+        requires costs { Suffixes M.meaning rows.now (from_bytes plan.now) self.now.after 0 }
+        ensures { members result ≡ named_in (kept M.meaning best M.meaning.neutral rows.now (from_bytes plan.now)) }
+    {
+        let mut before = M::neutral();
+        let mut set = DecisionSet::empty();
+        for (i, row) in rows.iter().enumerate() {
+            if is_kept(row, plan, best, before, self.after[i + 1]) {
+                before = before.join(M::read(row.price));
+                set = set.union(named(row));
+            }
+        }
+        set
     }
 }
 
@@ -42,24 +77,4 @@ fn is_kept<M: Measure>(row: &Row, plan: &[u8], best: M, before: M, later: M) -> 
     ensures { result ≡ (met (from_bytes plan.now) row.now && not (M.meaning.at_most best (M.meaning.joins before later))) }
 {
     row.met(plan) && !best.at_most(before.join(later))
-}
-
-/// The decisions that the kept price rules name: in place order, one is dropped if those kept before it and those met
-/// after it still reach the best's cost.
-pub fn kept_named<M: Measure>(rows: &[Row], plan: &[u8], best: M, after: &[M; 257]) -> DecisionSet
-    requires few { length rows.now ≤ 256 }
-    requires known { Known rows.now }
-    requires long { length after.now ≡ 257 }
-    requires costs { Suffixes M.meaning rows.now (from_bytes plan.now) after.now 0 }
-    ensures { members result ≡ named_in (kept M.meaning best M.meaning.neutral rows.now (from_bytes plan.now)) }
-{
-    let mut before = M::neutral();
-    let mut set = DecisionSet::empty();
-    for (i, row) in rows.iter().enumerate() {
-        if is_kept(row, plan, best, before, after[i + 1]) {
-            before = before.join(M::read(row.price));
-            set = set.union(named(row));
-        }
-    }
-    set
 }

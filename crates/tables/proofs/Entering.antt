@@ -1,6 +1,7 @@
 -- A trail's entries as two arrays hold them, and one entry more.
-use Rattle.std.proofs.Common.{◌≡◌, ℕ, zero, suc, ◌+◌, ◌<◌, ◌≤◌, true, false, ◌&&◌, eqb, ltb, leb, List, [], ◌∷◌, length, get_or, set, replicate, sym, refl, ap, ◌∙◌, ⊎_elim, add-one, arith}
-use Rattle.std.proofs.lemmas.List.{get_or-set_same, get_or-set_other, get_or-replicate, get_or_past, length-replicate}
+use Rattle.std.proofs.Common.{◌≡◌, ℕ, zero, suc, ◌+◌, ◌<◌, ◌≤◌, true, false, ◌&&◌, eqb, ltb, leb, List, [], ◌∷◌, ◌++◌, length, take, get_or, set, replicate, sym, refl, ap, ap₂, ◌∙◌, ⊎_elim, add-one, arith}
+use Rattle.std.proofs.lemmas.List.{get_or-set_same, get_or-set_other, get_or-replicate, get_or-take, get_or_append_left, get_or_past, length-append, length-replicate, length-take}
+use Rattle.std.proofs.Math.Seq.{get_or-append_seam}
 use Rattle.std.proofs.lemmas.Bool.{and_parts, and_from, cases_eq, cases_lt, eqb-true, eq-eqb, ltb-true, lt-ltb, leb-true, le-leb}
 use Rattle.rules.specs.Plans.{size_at, absent}
 use Rattle.rules.specs.declared.decision.Decision.{Decision}
@@ -8,7 +9,7 @@ use Rattle.account.specs.Accounts.{Entry as Choice, chosen}
 use Rattle.account.proofs.Formed.{Distinct}
 use Rattle.account.proofs.Trails.{chosen_here, chosen_other}
 use Rattle.account.proofs.Digits.{trail_le}
-use Rattle.tables.specs.Entries.{entry_of, blank, entries_of, enters, proper}
+use Rattle.tables.specs.Entries.{entry_of, blank, entries_of, newest_first, enters, proper}
 use Rattle.tables.specs.declared.entry.Entry.{Entry}
 
 -- what a test of an entry says
@@ -65,14 +66,27 @@ entries_length es zero = refl
 entries_length es (suc n) = ap suc (entries_length es n)
 
 -- there is room for an entry that enters
-pub room : (es : List Entry) (n : ℕ) (e : Choice) → proper (entries_of es n) ≡ true → Enters e (entries_of es n) → n < 64
-room es n e p h = omega (arith, entries_length es n, proper_short (e ∷ entries_of es n) (proper_more e (entries_of es n) h p))
+pub room : (es : List Entry) (e : Choice) → proper (newest_first es) ≡ true → Enters e (newest_first es) → length es < 64
+room es e p h = omega (arith, entries_length es (length es), proper_short (e ∷ newest_first es) (proper_more e (newest_first es) h p))
 
 -- arrays that agree below n hold the same first entries
 pub entries_same : (es fs : List Entry) (n : ℕ) → ((k : ℕ) → k < n → get_or es k blank ≡ get_or fs k blank) → entries_of es n ≡ entries_of fs n
 entries_same es fs zero h = refl
 entries_same es fs (suc n) h =
     ap (λ (e : Entry). entry_of e ∷ entries_of es n) (h n (omega arith)) ∙ ap (λ (cs : List Choice). entry_of (get_or fs n blank) ∷ cs) (entries_same es fs n (λ k l. h k (omega arith)))
+
+-- the first n entries, cut off
+pub entries_taken : (es : List Entry) (n : ℕ) → n ≤ length es → newest_first (take n es) ≡ entries_of es n
+entries_taken es n l =
+    let long : length (take n es) ≡ n = omega (arith, length-take n es) in
+    ap (entries_of (take n es)) long ∙ entries_same (take n es) es n (λ k h. get_or-take n es k blank h)
+
+-- one entry more
+pub entries_pushed : (es : List Entry) (e : Entry) → newest_first (es ++ e ∷ []) ≡ entry_of e ∷ newest_first es
+entries_pushed es e =
+    ap (entries_of (es ++ e ∷ [])) (length-append es (e ∷ []) ∙ add-one (length es))
+    ∙ ap₂ (λ (x : Entry) (cs : List Choice). entry_of x ∷ cs) (get_or-append_seam es e [] blank)
+    (entries_same (es ++ e ∷ []) es (length es) (λ k h. get_or_append_left es (e ∷ []) blank k h))
 
 -- an entry written behind the first n
 pub entries_set : (es : List Entry) (n : ℕ) (e : Entry) → n < length es → entries_of (set es n e) (n + 1) ≡ entry_of e ∷ entries_of es n
@@ -88,18 +102,17 @@ entry_proper es (suc n) k p l =
     let q = proper_parts (entry_of (get_or es n blank)) (entries_of es n) p in
     ⊎_elim (λ (h : k ≡ n). rw h q) (λ (h : k ≡ n → ⊥). entry_proper es n k q.1 (omega arith)) (cases_eq k n)
 
--- an entry written behind the first n, and its value
-module _ (es : List Entry) (n : ℕ) (vs : List ℕ) (e : Entry) (full : length es ≡ 64) (wide : length vs ≡ 64) (p : proper (entries_of es n) ≡ true) (h : Enters (entry_of e) (entries_of es n)) where
-  pub entered_proper : proper (entries_of (set es n e) (n + 1)) ≡ true
-  entered_proper =
-      ap proper (entries_set es n e (omega (arith, full, room es n (entry_of e) p h))) ∙ proper_more (entry_of e) (entries_of es n) h p
+-- one entry more, and its value
+module _ (es : List Entry) (vs : List ℕ) (e : Entry) (wide : length vs ≡ 64) (p : proper (newest_first es) ≡ true) (h : Enters (entry_of e) (newest_first es)) where
+  pub entered_proper : proper (newest_first (es ++ e ∷ [])) ≡ true
+  entered_proper = ap proper (entries_pushed es e) ∙ proper_more (entry_of e) (newest_first es) h p
 
-  pub entered_values : ((d : ℕ) → get_or vs d 0 ≡ chosen (entries_of es n) d) → (d : ℕ) → get_or (set vs e.decision e.value) d 0 ≡ chosen (entries_of (set es n e) (n + 1)) d
+  pub entered_values : ((d : ℕ) → get_or vs d 0 ≡ chosen (newest_first es) d) → (d : ℕ) → get_or (set vs e.decision e.value) d 0 ≡ chosen (newest_first (es ++ e ∷ [])) d
   entered_values was d =
-      ⊎_elim (λ (q : d ≡ e.decision). ap (λ (x : ℕ). get_or (set vs e.decision e.value) x 0) q ∙ get_or-set_same vs e.decision e.value 0 (omega (arith, wide, h.known)) ∙ sym (chosen_here (entry_of e) (entries_of es n) d q))
-      (λ (q : d ≡ e.decision → ⊥). get_or-set_other vs e.decision d e.value 0 q ∙ was d ∙ sym (chosen_other (entry_of e) (entries_of es n) d q))
+      ⊎_elim (λ (q : d ≡ e.decision). ap (λ (x : ℕ). get_or (set vs e.decision e.value) x 0) q ∙ get_or-set_same vs e.decision e.value 0 (omega (arith, wide, h.known)) ∙ sym (chosen_here (entry_of e) (newest_first es) d q))
+      (λ (q : d ≡ e.decision → ⊥). get_or-set_other vs e.decision d e.value 0 q ∙ was d ∙ sym (chosen_other (entry_of e) (newest_first es) d q))
       (cases_eq d e.decision)
-      ∙ ap (λ (cs : List Choice). chosen cs d) (sym (entries_set es n e (omega (arith, full, room es n (entry_of e) p h))))
+      ∙ ap (λ (cs : List Choice). chosen cs d) (sym (entries_pushed es e))
 
 -- 64 zeros are the values of no trail
 pub zeros : (d : ℕ) → get_or (replicate {A = ℕ} 64 0) d 0 ≡ 0

@@ -1,10 +1,12 @@
 -- What is found among the exclusions of one decision's values.
-use Rattle.std.proofs.Common.{◌≡◌, ℕ, zero, suc, ◌+◌, ◌-◌, ◌<◌, ◌≤◌, min, Bool, true, false, cond, not, ◌||◌, Some, None, Option, sym, refl, ap, ◌∙◌, ap₂, inl, inr, not-suc-le-zero, arith}
-use mathlib.Core.Path.{fun_ext}
-use Rattle.std.proofs.lemmas.Bool.{cases_eq, or_from, or_left, or_right}
+use Rattle.std.proofs.Common.{List, [], ◌∷◌, ◌++◌, ◌≡◌, ℕ, zero, suc, ◌+◌, ◌<◌, ◌≤◌, min, Bool, true, false, cond, not, ◌||◌, Some, None, Option, sym, refl, ap, ◌∙◌, ap₂, arith}
+use Rattle.std.specs.List.{fold, list_any, range_with_len}
+use Rattle.std.proofs.lemmas.List.Folds.{list_any-append}
+use Rattle.tables.proofs.Folds.{next_value}
+use Rattle.std.proofs.lemmas.List.Sums.{fold-append}
 use Rattle.rules.specs.Plans.{Set}
 use Rattle.rules.specs.Refusals.{or_else, when}
-use Rattle.account.specs.Accounts.{Exclusion, either}
+use Rattle.account.specs.Accounts.{Exclusion, either, nobody}
 use Rattle.account.specs.Calls.{count_free}
 use Rattle.account.specs.Steps.{any_rests, is_free, reason_of, reasons, rests_on, smallest_free}
 use Rattle.sets.proofs.BoolLaws.{or_failed}
@@ -48,36 +50,25 @@ module _ (ex : ℕ → Option Exclusion) (t : ℕ → Bool) (free : (v : ℕ) �
 pub whole_size : (size : ℕ) → size ≤ 16 → min size 16 ≡ size
 whole_size size h = omega arith
 
-module _ (ex : ℕ → Option Exclusion) (v : ℕ) (low : 1 ≤ v) where
-  -- one more value's reason
-  reasons_more : reasons ex (v + 1 - 1) ≡ either (reasons ex (v - 1)) (reason_of (ex v))
-  reasons_more =
-      let e : v + 1 - 1 ≡ suc (v - 1) = omega arith in
-      let f : suc (v - 1) ≡ v = omega arith in
-      ap (reasons ex) e ∙ ap (λ (k : ℕ). either (reasons ex (v - 1)) (reason_of (ex k))) f
+-- the reasons of values, gathered one after the other
+abbrev pub gathered : (ℕ → Option Exclusion) → List ℕ → Set
+gathered ex vs = fold (λ s v. either s (reason_of (ex v))) nobody vs
 
-  -- an excluded value adds its reason
-  pub reasons_some : (all after : Set) (e : Exclusion) → all ≡ reasons ex (v - 1) → Some e ≡ ex v → after ≡ (λ x. all x || e.reason x) → after ≡ reasons ex (v + 1 - 1)
-  reasons_some all after e before is new =
-      new ∙ ap₂ (λ (s : Set) (o : Option Exclusion). either s (reason_of o)) before is ∙ sym reasons_more
+-- one more value's reason
+pub gathered_more : (ex : ℕ → Option Exclusion) (vs : List ℕ) (v : ℕ) (all after : Set) → all ≡ gathered ex vs → after ≡ either all (reason_of (ex v)) → after ≡ gathered ex (vs ++ v ∷ [])
+gathered_more ex vs v all after before new =
+    new ∙ ap (λ (s : Set). either s (reason_of (ex v))) before ∙ sym (fold-append (λ s w. either s (reason_of (ex w))) nobody vs (v ∷ []))
 
-  -- a free value adds none
-  pub reasons_none : (all : Set) → all ≡ reasons ex (v - 1) → None ≡ ex v → all ≡ reasons ex (v + 1 - 1)
-  reasons_none all before is =
-      sym (fun_ext (λ (x : ℕ). or_failed (all x) false refl)) ∙ ap₂ (λ (s : Set) (o : Option Exclusion). either s (reason_of o)) before is ∙ sym reasons_more
+-- the reasons of the values 1 to n
+pub gathered_is : (ex : ℕ → Option Exclusion) (n : ℕ) → gathered ex (range_with_len 1 n) ≡ reasons ex n
+gathered_is ex zero = refl
+gathered_is ex (suc n) =
+    ap (gathered ex) (next_value n) ∙ fold-append (λ s v. either s (reason_of (ex v))) nobody (range_with_len 1 n) (suc n ∷ [])
+    ∙ ap (λ (s : Set). either s (reason_of (ex (suc n)))) (gathered_is ex n)
 
-  -- a value that does not rest leaves it at none
-  pub rests_none : any_rests ex (v - 1) ≡ false → rests_on (ex v) ≡ false → any_rests ex (v + 1 - 1) ≡ false
-  rests_none before h =
-      let e : v + 1 - 1 ≡ suc (v - 1) = omega arith in
-      let f : v ≡ suc (v - 1) = omega arith in
-      ap (any_rests ex) e ∙ or_from (any_rests ex (v - 1)) (rests_on (ex (suc (v - 1)))) before (ap (λ (k : ℕ). rests_on (ex k)) (sym f) ∙ h)
-
--- a value that rests is found
-pub rests_found : (ex : ℕ → Option Exclusion) (n v : ℕ) → 1 ≤ v → v ≤ n → rests_on (ex v) ≡ true → true ≡ any_rests ex n
-rests_found ex zero v low high h = absurd (not-suc-le-zero (let z : 1 ≤ 0 = omega arith in z))
-rests_found ex (suc n) v low high h =
-    elim (cases_eq v (suc n)) [
-      | inl same ↦ sym (or_right (any_rests ex n) (rests_on (ex (suc n))) (ap (λ (k : ℕ). rests_on (ex k)) (sym same) ∙ h))
-      | inr other ↦ sym (or_left (any_rests ex n) (rests_on (ex (suc n))) (sym (rests_found ex n v low (omega arith) h)))
-    ]
+-- whether one of the values 1 to n rests
+pub any_rests_is : (ex : ℕ → Option Exclusion) (n : ℕ) → list_any (λ v. rests_on (ex v)) (range_with_len 1 n) ≡ any_rests ex n
+any_rests_is ex zero = refl
+any_rests_is ex (suc n) =
+    ap (list_any (λ v. rests_on (ex v))) (next_value n) ∙ list_any-append (λ v. rests_on (ex v)) (range_with_len 1 n) (suc n ∷ [])
+    ∙ ap₂ (λ (a b : Bool). a || b) (any_rests_is ex n) (or_failed (rests_on (ex (suc n))) false refl)

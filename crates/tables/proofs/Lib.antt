@@ -1,5 +1,6 @@
 pub mod Cells
 pub mod Entering
+pub mod Folds
 pub mod Frees
 pub mod Listed
 pub mod Marks

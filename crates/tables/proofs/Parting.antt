@@ -1,12 +1,12 @@
 -- What a retreat leaves of a trail whose entries are proper: what left is off the plan, and the rest stays as it was.
-use Rattle.std.proofs.Common.{◌≡◌, ℕ, zero, suc, ◌+◌, ◌<◌, Bool, true, false, cond, ◌||◌, eqb, List, [], ◌∷◌, get_or, Some, None, sym, refl, ap, ◌∙◌, ⊎_elim, add-zero, add-suc, arith}
+use Rattle.std.proofs.Common.{◌≡◌, ℕ, zero, suc, ◌+◌, ◌<◌, Bool, true, false, cond, ◌||◌, eqb, List, [], ◌∷◌, length, get_or, Some, None, sym, refl, ap, ◌∙◌, ⊎_elim, add-zero, add-suc, arith}
 use Rattle.std.specs.List.{AllByRecursion}
 use Rattle.std.proofs.lemmas.Bool.{cases_Bool, cases_eq, cond_both, cond-true, cond-false, eq-eqb, ne_eqb, eqb-true, or_cases, false≢true}
 use Rattle.rules.specs.Plans.{Set}
 use Rattle.account.specs.Accounts.{Entry as Choice, chosen, has_any}
 use Rattle.account.specs.Steps.{Retreat as Parting, follow, retreat}
 use Rattle.account.proofs.Trails.{chosen_here, chosen_other}
-use Rattle.tables.specs.Entries.{entry_of, blank, entries_of, proper, in_list}
+use Rattle.tables.specs.Entries.{entry_of, blank, entries_of, newest_first, proper, in_list}
 use Rattle.tables.specs.Retreats.{followed, swept, Latest}
 use Rattle.tables.specs.declared.entry.Entry.{Entry}
 use Rattle.tables.proofs.Entering.{Enters, proper_parts, proper_more}
@@ -107,12 +107,15 @@ swept_is s es place (suc n) h later =
     rw (add-suc, later (suc (place + n)) (omega arith) (omega (arith, add-suc place n)))
     (ap (follow e) (swept_is s es place n h (λ k a b. later k a (omega (arith, add-suc place n)))))
 
-pub retreat_some : (s : Set) (es : List Entry) (n place m : ℕ) → Latest s es n (Some place) → suc (place + m) ≡ n → retreat s (entries_of es n) ≡ Some (swept es place m)
-retreat_some s es n place m l e =
+pub retreat_some : (s : Set) (es : List Entry) (place m : ℕ) → Latest s es (Some place) → suc (place + m) ≡ length es → retreat s (newest_first es) ≡ Some (swept es place m)
+retreat_some s es place m l e =
     ap (λ (k : ℕ). retreat s (entries_of es k)) (sym e) ∙ swept_is s es place m l.1 (λ k a b. l.2 k a (omega arith))
 
-pub retreat_none : (s : Set) (es : List Entry) (n : ℕ) → Latest s es n None → retreat s (entries_of es n) ≡ None
+none_blamed : (s : Set) (es : List Entry) (n : ℕ) → ((k : ℕ) → k < n → s (get_or es k blank).decision ≡ false) → retreat s (entries_of es n) ≡ None
 unfolding retreat
-retreat_none s es zero l = refl
-retreat_none s es (suc n) l =
-    rw (l n (omega arith)) (ap (follow (entry_of (get_or es n blank))) (retreat_none s es n (λ k h. l k (omega arith))))
+none_blamed s es zero l = refl
+none_blamed s es (suc n) l =
+    rw (l n (omega arith)) (ap (follow (entry_of (get_or es n blank))) (none_blamed s es n (λ k h. l k (omega arith))))
+
+pub retreat_none : (s : Set) (es : List Entry) → Latest s es None → retreat s (newest_first es) ≡ None
+retreat_none s es l = none_blamed s es (length es) l

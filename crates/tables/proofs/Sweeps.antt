@@ -1,5 +1,5 @@
 -- The arrays of a trail while a retreat sweeps over them.
-use Rattle.std.proofs.Common.{◌≡◌, ℕ, suc, ◌+◌, ◌-◌, ◌<◌, Bool, true, false, cond, ◌&&◌, ◌||◌, eqb, ltb, List, [], ◌∷◌, length, get_or, set, Some, sym, refl, ap, ◌∙◌, subst, ⊎_elim, arith}
+use Rattle.std.proofs.Common.{◌≡◌, ℕ, suc, ◌+◌, ◌-◌, ◌<◌, ◌≤◌, Bool, true, false, cond, ◌&&◌, ◌||◌, eqb, ltb, List, [], ◌∷◌, length, take, get_or, set, Some, sym, refl, ap, ◌∙◌, subst, ⊎_elim, arith}
 use mathlib.Core.Path.{fun_ext}
 use Rattle.std.specs.List.{AllByRecursion}
 use Rattle.std.proofs.lemmas.List.{get_or-set_same, get_or-set_other, length-set}
@@ -10,10 +10,10 @@ use Rattle.account.specs.Accounts.{Entry as Choice, chosen, has_any}
 use Rattle.account.specs.Steps.{Retreat as Parting, retreat}
 use Rattle.sets.specs.Members.{members}
 use Rattle.sets.specs.Searches.{some_below}
-use Rattle.tables.specs.Entries.{entry_of, blank, entries_of, in_list, proper}
+use Rattle.tables.specs.Entries.{entry_of, blank, entries_of, newest_first, in_list, proper}
 use Rattle.tables.specs.Retreats.{Latest, followed, swept, Sweeping}
 use Rattle.tables.specs.declared.entry.Entry.{Entry}
-use Rattle.tables.proofs.Entering.{entries_set, entry_proper}
+use Rattle.tables.proofs.Entering.{entries_set, entries_taken, entry_proper}
 use Rattle.tables.proofs.Listed.{meets_any, left_more}
 use Rattle.tables.proofs.Parting.{Parted, swept_parted, swept_culprit, retreat_some}
 
@@ -27,9 +27,9 @@ values_less p vs ds d l e =
 
 module _ (es : List Entry) (vs : List ℕ) where
   -- nothing has left yet
-  sweeping_none : (place : ℕ) (s : Set) → length es ≡ 64 → length vs ≡ 64 → s ≡ (λ (x : ℕ). false)
+  sweeping_none : (place : ℕ) (s : Set) → length vs ≡ 64 → s ≡ (λ (x : ℕ). false)
       → Sweeping es vs (record { culprit = entry_of (get_or es place blank); left = []; stays = entries_of es place }) es vs place s
-  sweeping_none place s f w e = record { full = f; wide = w; stays = refl; left = e; values = refl }
+  sweeping_none place s w e = record { full = refl; wide = w; stays = refl; left = e; values = refl }
 
   module _ (r : Parting) (ns : List Entry) (ws : List ℕ) (n : ℕ) (s : Set) (h : Sweeping es vs r ns ws n s) where
     -- a decision leaves
@@ -45,7 +45,7 @@ module _ (es : List Entry) (vs : List ℕ) where
         }
 
     -- an entry moves up
-    sweeping_stays : (e : Entry) → n < 64 → Sweeping es vs (record { culprit = r.culprit; left = r.left; stays = entry_of e ∷ r.stays }) (set ns n e) ws (n + 1) s
+    sweeping_stays : (e : Entry) → n < length es → Sweeping es vs (record { culprit = r.culprit; left = r.left; stays = entry_of e ∷ r.stays }) (set ns n e) ws (n + 1) s
     sweeping_stays e l =
         record {
           full = length-set ns n e ∙ h.full;
@@ -64,22 +64,22 @@ swept_next es place i l =
     ap (swept es place) a ∙ ap (λ (k : ℕ). followed (entry_of (get_or es k blank)) (swept es place (i - (place + 1)))) b
 
 -- the sweep from a place, before its first entry: the culprit has left
-pub sweep_begins : (es : List Entry) (vs : List ℕ) (place : ℕ) (s t : Set) → length es ≡ 64 → length vs ≡ 64 → (get_or es place blank).decision < 64
+pub sweep_begins : (es : List Entry) (vs : List ℕ) (place : ℕ) (s t : Set) → length vs ≡ 64 → (get_or es place blank).decision < 64
     → s ≡ (λ (x : ℕ). false) → t ≡ (λ (x : ℕ). s x || (eqb x (get_or es place blank).decision && ltb (get_or es place blank).decision 64))
     → Sweeping es vs (swept es place 0) es (set vs (get_or es place blank).decision 0) place t
 unfolding swept
-sweep_begins es vs place s t f w l e h =
-    sweeping_leaves es vs (record { culprit = entry_of (get_or es place blank); left = []; stays = entries_of es place }) es vs place s (sweeping_none es vs place s f w e) (get_or es place blank).decision t l h
+sweep_begins es vs place s t w l e h =
+    sweeping_leaves es vs (record { culprit = entry_of (get_or es place blank); left = []; stays = entries_of es place }) es vs place s (sweeping_none es vs place s w e) (get_or es place blank).decision t l h
 
 -- the sweep comes to an entry
-module _ (es : List Entry) (place count i : ℕ) (p : proper (entries_of es count) ≡ true) (before : place < i) (within : i < count) (e : Entry) (is : get_or es i blank ≡ e) where
+module _ (es : List Entry) (place i : ℕ) (p : proper (newest_first es) ≡ true) (before : place < i) (within : i < length es) (e : Entry) (is : get_or es i blank ≡ e) where
   pub met_below : e.decision < 64
-  met_below = omega (arith, ap (λ (x : Entry). x.decision) is, (entry_proper es count i p within).0.known)
+  met_below = omega (arith, ap (λ (x : Entry). x.decision) is, (entry_proper es (length es) i p within).0.known)
 
   left_below : AllByRecursion (λ (d : ℕ). d < 64) (swept es place (i - (place + 1))).left
   left_below =
       let b : suc (place + (i - (place + 1))) ≡ i = omega arith in
-      (swept_parted es place (i - (place + 1)) (ap (λ (k : ℕ). proper (entries_of es k)) b ∙ (entry_proper es count i p within).1)).known
+      (swept_parted es place (i - (place + 1)) (ap (λ (k : ℕ). proper (entries_of es k)) b ∙ (entry_proper es (length es) i p within).1)).known
 
   module _ {vs : List ℕ} {ns : List Entry} {ws : List ℕ} {n : ℕ} {s : Set} (h : Sweeping es vs (swept es place (i - (place + 1))) ns ws n s) where
     any_left : some_below (λ (x : ℕ). members e.support x && s x) 64 ≡ has_any (members e.support) (swept es place (i - (place + 1))).left
@@ -100,7 +100,7 @@ module _ (es : List Entry) (place count i : ℕ) (p : proper (entries_of es coun
         (sweeping_leaves es vs r ns ws n s h e.decision t met_below q)
 
     -- its support has none, so it moves up
-    pub sweep_keeps : some_below (λ (x : ℕ). members e.support x && s x) 64 ≡ false → n < 64 → Sweeping es vs (swept es place (i + 1 - (place + 1))) (set ns n e) ws (n + 1) s
+    pub sweep_keeps : some_below (λ (x : ℕ). members e.support x && s x) 64 ≡ false → n < length es → Sweeping es vs (swept es place (i + 1 - (place + 1))) (set ns n e) ws (n + 1) s
     sweep_keeps m l =
         let r = swept es place (i - (place + 1)) in
         let gone : Parting = record { culprit = r.culprit; left = e.decision ∷ r.left; stays = r.stays } in
@@ -110,31 +110,34 @@ module _ (es : List Entry) (place count i : ℕ) (p : proper (entries_of es coun
         (sweeping_stays es vs r ns ws n s h e l)
 
 -- the sweep from the latest blamed entry over all later ones is the retreat
-module _ (blame : Set) (es : List Entry) (place count : ℕ) (l : Latest blame es count (Some place)) (p : proper (entries_of es count) ≡ true)
-    {vs : List ℕ} {ns : List Entry} {ws : List ℕ} {n : ℕ} {s : Set} (h : Sweeping es vs (swept es place (count - (place + 1))) ns ws n s) where
-  whole : suc (place + (count - (place + 1))) ≡ count
+module _ (blame : Set) (es : List Entry) (place : ℕ) (l : Latest blame es (Some place)) (p : proper (newest_first es) ≡ true)
+    {vs : List ℕ} {ns : List Entry} {ws : List ℕ} {n : ℕ} {s : Set} (h : Sweeping es vs (swept es place (length es - (place + 1))) ns ws n s) (few : n ≤ length es) where
+  whole : suc (place + (length es - (place + 1))) ≡ length es
   whole = omega (arith, l.0)
 
-  parted : Parted (entries_of es count) (swept es place (count - (place + 1)))
+  parted : Parted (newest_first es) (swept es place (length es - (place + 1)))
   parted =
-      let P : ℕ → Type 0 = λ k. Parted (entries_of es k) (swept es place (count - (place + 1))) in
-      subst P whole (swept_parted es place (count - (place + 1)) (ap (λ (k : ℕ). proper (entries_of es k)) whole ∙ p))
+      let P : ℕ → Type 0 = λ k. Parted (entries_of es k) (swept es place (length es - (place + 1))) in
+      subst P whole (swept_parted es place (length es - (place + 1)) (ap (λ (k : ℕ). proper (entries_of es k)) whole ∙ p))
 
-  pub sweep_retreats : retreat blame (entries_of es count) ≡ Some (record { culprit = entry_of (get_or es place blank); left = (swept es place (count - (place + 1))).left; stays = entries_of ns n })
+  stays_are : newest_first (take n ns) ≡ (swept es place (length es - (place + 1))).stays
+  stays_are = entries_taken ns n (omega (arith, few, h.full)) ∙ h.stays
+
+  pub sweep_retreats : retreat blame (newest_first es) ≡ Some (record { culprit = entry_of (get_or es place blank); left = (swept es place (length es - (place + 1))).left; stays = newest_first (take n ns) })
   sweep_retreats =
-      let r = swept es place (count - (place + 1)) in
-      retreat_some blame es count place (count - (place + 1)) l whole
-      ∙ ap (λ (c : Choice). Some (record { culprit = c; left = r.left; stays = r.stays })) (swept_culprit es place (count - (place + 1)))
-      ∙ ap (λ (cs : List Choice). Some (record { culprit = entry_of (get_or es place blank); left = r.left; stays = cs })) (sym h.stays)
+      let r = swept es place (length es - (place + 1)) in
+      retreat_some blame es place (length es - (place + 1)) l whole
+      ∙ ap (λ (c : Choice). Some (record { culprit = c; left = r.left; stays = r.stays })) (swept_culprit es place (length es - (place + 1)))
+      ∙ ap (λ (cs : List Choice). Some (record { culprit = entry_of (get_or es place blank); left = r.left; stays = cs })) (sym stays_are)
 
-  pub sweep_known : AllByRecursion (λ (d : ℕ). d < 64) (swept es place (count - (place + 1))).left
+  pub sweep_known : AllByRecursion (λ (d : ℕ). d < 64) (swept es place (length es - (place + 1))).left
   sweep_known = parted.known
 
-  pub sweep_proper : proper (entries_of ns n) ≡ true
-  sweep_proper = ap proper h.stays ∙ parted.properly
+  pub sweep_proper : proper (newest_first (take n ns)) ≡ true
+  sweep_proper = ap proper stays_are ∙ parted.properly
 
-  pub sweep_planned : ((d : ℕ) → get_or vs d 0 ≡ chosen (entries_of es count) d) → (d : ℕ) → get_or ws d 0 ≡ chosen (entries_of ns n) d
+  pub sweep_planned : ((d : ℕ) → get_or vs d 0 ≡ chosen (newest_first es) d) → (d : ℕ) → get_or ws d 0 ≡ chosen (newest_first (take n ns)) d
   sweep_planned was d =
-      let r = swept es place (count - (place + 1)) in
+      let r = swept es place (length es - (place + 1)) in
       ap (λ (f : Plan). f d) h.values ∙ ap (λ (y : ℕ). cond (in_list d r.left) 0 y) (was d) ∙ sym (parted.planned d)
-      ∙ ap (λ (cs : List Choice). chosen cs d) (sym h.stays)
+      ∙ ap (λ (cs : List Choice). chosen cs d) (sym stays_are)

@@ -1,5 +1,5 @@
 -- The entries that an array holds, as the account's trail.
-use Rattle.std.specs.Prelude.{ℕ, zero, suc, Bool, true, false, ◌&&◌, ◌||◌, List, [], ◌∷◌, ◌==◌, nat_le, nat_lt, slice_index_or}
+use Rattle.std.specs.Prelude.{ℕ, zero, suc, Bool, true, false, ◌&&◌, ◌||◌, List, [], ◌∷◌, length, ◌==◌, nat_le, nat_lt, slice_index_or}
 use Rattle.account.specs.Accounts.{Entry as Choice, chosen}
 use Rattle.sets.specs.Members.{members}
 use Rattle.tables.specs.declared.entry.Entry.{Entry}
@@ -16,6 +16,10 @@ blank = record { decision = 0; value = 0; support = record { bits = 0 } }
 abbrev pub entries_of : List Entry → ℕ → List Choice
 entries_of es zero = []
 entries_of es (suc n) = entry_of (slice_index_or es n blank) ∷ entries_of es n
+
+-- all entries, newest first
+abbrev pub newest_first : List Entry → List Choice
+newest_first es = entries_of es (length es)
 
 -- whether an entry may enter a trail: its decision is below 64 and not on the trail, its value 1 to 16
 abbrev pub enters : Choice → List Choice → Bool

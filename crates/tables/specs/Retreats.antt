@@ -10,11 +10,11 @@ use Rattle.tables.specs.Entries.{entry_of, blank, entries_of, in_list}
 use Rattle.tables.specs.declared.entry.Entry.{Entry}
 use Rattle.tables.specs.declared.retreat.Retreat.{Retreat}
 
--- the place of the latest of the first n entries whose decision is in a set
-abbrev pub Latest : Set → List Entry → ℕ → Option ℕ → Type 0
-Latest s es n None = (k : ℕ) → k < n → s (get_or es k blank).decision ≡ false
-Latest s es n (Some place) =
-    (place < n) × (s (get_or es place blank).decision ≡ true) × ((k : ℕ) → place < k → k < n → s (get_or es k blank).decision ≡ false)
+-- the place of the latest entry whose decision is in a set
+abbrev pub Latest : Set → List Entry → Option ℕ → Type 0
+Latest s es None = (k : ℕ) → k < length es → s (get_or es k blank).decision ≡ false
+Latest s es (Some place) =
+    (place < length es) × (s (get_or es place blank).decision ≡ true) × ((k : ℕ) → place < k → k < length es → s (get_or es k blank).decision ≡ false)
 
 -- an entry newer than the culprit leaves if its support has a decision that left
 abbrev pub followed : Choice → Parting → Parting
@@ -30,7 +30,7 @@ swept es place (suc n) = followed (entry_of (slice_index_or es (suc (place + n))
 
 -- a trail's entries es and values vs have become ns and ws by a retreat r: the first n entries stay, the decisions of s left, and those have the value 0
 pub record Sweeping (es : List Entry) (vs : List ℕ) (r : Parting) (ns : List Entry) (ws : List ℕ) (n : ℕ) (s : Set) : Type 0 where
-  pub full : length ns ≡ 64
+  pub full : length ns ≡ length es
   pub wide : length ws ≡ 64
   pub stays : entries_of ns n ≡ r.stays
   pub left : s ≡ (λ (x : ℕ). in_list x r.left)

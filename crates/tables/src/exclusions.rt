@@ -1,12 +1,13 @@
 //! The excluded values of every decision.
 ghost use Rattle.std.specs.Prelude.{◌≡◌, ◌<◌, ◌≤◌, not, ◌&&◌, ◌||◌, if◌then◌else◌, Some, None, ◌==◌, nat_eq, nat_lt};
-ghost use Rattle.account.specs.Accounts.{empty_below};
+ghost use Rattle.account.specs.Accounts.{either, empty_below};
 ghost use Rattle.account.specs.Calls.{count_free};
 ghost use Rattle.account.specs.Changes.{keep_if};
-ghost use Rattle.account.specs.Steps.{any_rests, is_free, reasons, rests_on, smallest_free};
+ghost use Rattle.account.specs.Steps.{any_rests, is_free, reason_of, reasons, rests_on, smallest_free};
 ghost use Rattle.sets.specs.Members.{members, values};
 ghost use Rattle.tables.specs.Excluded.{as_exclusion, cell_of, exclusions_of, spared, unless_meets};
 
+use crate::{Choice, Domain};
 use sets::{DecisionSet, ValueSet};
 
 /// For each of 64 decisions its excluded values, which of them rest on the best, and the reason of each: that of value
@@ -18,48 +19,22 @@ pub struct Exclusions {
     reasons: [u64; 1024],
 }
 
-/// Where the reason of a value stands.
-fn cell(d: u8, v: u8) -> usize
-    requires known { d < 64 }
-    requires low { 1 ≤ v }
-    requires high { v ≤ 16 }
-    ensures value { result ≡ cell_of d v }
+/// Where the reason of a choice stands.
+fn cell(choice: Choice) -> usize
+    ensures value { result ≡ cell_of choice.decision choice.value }
     ensures within { result < 1024 }
 {
-    16 * (d as usize) + (v as usize - 1)
+    16 * (choice.decision as usize) + (choice.value as usize - 1)
 }
 
-/// A set of values without one of them.
-fn without(set: ValueSet, v: u8) -> ValueSet
-    requires low { 1 ≤ v }
-    requires high { v ≤ 16 }
-    ensures { values result ≡ (λ x. values set x && not (x == v)) }
+/// A set of values with a chosen one in it or out of it.
+fn marked(set: ValueSet, choice: Choice, mark: bool) -> ValueSet
+    ensures { values result ≡ (λ x. (if nat_eq x choice.value then mark else values set x)) }
 {
-    ValueSet {
-        bits: set.bits & !(1u16 << (v - 1)),
-    }
-}
-
-/// A set of values with one of them in it or out of it.
-fn marked(set: ValueSet, v: u8, mark: bool) -> ValueSet
-    requires low { 1 ≤ v }
-    requires high { v ≤ 16 }
-    ensures { values result ≡ (λ x. (if nat_eq x v then mark else values set x)) }
-{
-    if mark { set.with(v) } else { without(set, v) }
-}
-
-/// The set of the decisions below a number, of 64 at most.
-fn first_decisions(count: u8) -> DecisionSet
-    requires { count ≤ 64 }
-    ensures { members result ≡ (λ x. nat_lt x count) }
-{
-    if count < 64 {
-        DecisionSet {
-            bits: (1u64 << count) - 1,
-        }
+    if mark {
+        set.with(choice.value)
     } else {
-        DecisionSet { bits: u64::MAX }
+        set.without(choice.value)
     }
 }
 
@@ -87,8 +62,12 @@ impl Exclusions {
         ensures { as_exclusion result ≡ exclusions_of self.now d v }
     {
         if d < 64 && self.excluded[d as usize].has(v) {
+            let choice = Choice {
+                decision: d,
+                value: v,
+            };
             let reason = DecisionSet {
-                bits: self.reasons[cell(d, v)],
+                bits: self.reasons[cell(choice)],
             };
             Some((reason, self.resting[d as usize].has(v)))
         } else {
@@ -96,74 +75,59 @@ impl Exclusions {
         }
     }
 
-    /// Excludes a value, in place of any exclusion that it has.
-    pub fn put(&mut self, d: u8, v: u8, reason: DecisionSet, rests: bool)
-        requires known { d < 64 }
-        requires low { 1 ≤ v }
-        requires high { v ≤ 16 }
-        ensures { exclusions_of self.new ≡ (λ x w. (if nat_eq x d && w == v then Some (record { reason = members reason; rests = rests }) else exclusions_of self.old x w)) }
+    /// Excludes a choice, in place of any exclusion that it has.
+    pub fn put(&mut self, choice: Choice, reason: DecisionSet, rests: bool)
+        ensures { exclusions_of self.new ≡ (λ x w. (if nat_eq x choice.decision && w == choice.value then Some (record { reason = members reason; rests = rests }) else exclusions_of self.old x w)) }
     {
-        let at = d as usize;
-        self.excluded[at] = self.excluded[at].with(v);
-        self.resting[at] = marked(self.resting[at], v, rests);
-        self.reasons[cell(d, v)] = reason.bits;
+        let at = choice.decision as usize;
+        self.excluded[at] = self.excluded[at].with(choice.value);
+        self.resting[at] = marked(self.resting[at], choice, rests);
+        self.reasons[cell(choice)] = reason.bits;
     }
 
-    /// The smallest of the values 1 to `size` that is not excluded.
-    pub fn smallest_free(&self, d: u8, size: u8) -> Option<u8>
-        requires known { d < 64 }
-        requires few { size ≤ 16 }
-        ensures { result ≡ smallest_free (exclusions_of self.now d) size }
+    /// The smallest of a domain's values that is not excluded.
+    pub fn smallest_free(&self, domain: Domain) -> Option<u8>
+        ensures { result ≡ smallest_free (exclusions_of self.now domain.decision) domain.size }
     {
-        self.excluded[d as usize].smallest_outside(size)
+        self.excluded[domain.decision as usize].smallest_outside(domain.size)
     }
 
-    /// How many of the values 1 to `size` are not excluded.
-    pub fn count_free(&self, d: u8, size: u8) -> u8
-        requires known { d < 64 }
-        requires few { size ≤ 16 }
-        ensures { result ≡ count_free (exclusions_of self.now d) size }
+    /// How many of a domain's values are not excluded.
+    pub fn count_free(&self, domain: Domain) -> u8
+        ensures { result ≡ count_free (exclusions_of self.now domain.decision) domain.size }
     {
-        self.excluded[d as usize].count_outside(size)
+        self.excluded[domain.decision as usize].count_outside(domain.size)
     }
 
-    /// All reasons of the values 1 to `size`.
-    pub fn reasons_of(&self, d: u8, size: u8) -> DecisionSet
-        requires known { d < 64 }
-        requires few { size ≤ 16 }
-        ensures { members result ≡ reasons (exclusions_of self.now d) size }
+    /// All reasons of a domain's values.
+    pub fn reasons_of(&self, domain: Domain) -> DecisionSet
+        ensures { members result ≡ reasons (exclusions_of self.now domain.decision) domain.size }
     {
-        let mut all = DecisionSet::empty();
-        for v in 1..size + 1 {
-            if let Some((reason, _)) = self.get(d, v) {
-                all = all.union(reason);
-            }
-        }
-        all
+        (1..domain.size + 1).fold(
+            DecisionSet::empty(),
+            |all, v| self.with_reason(all, domain.decision, v),
+        )
     }
 
-    /// Whether an exclusion of the values 1 to `size` rests on the best.
-    pub fn any_rests(&self, d: u8, size: u8) -> bool
-        requires known { d < 64 }
-        requires few { size ≤ 16 }
-        ensures { result ≡ any_rests (exclusions_of self.now d) size }
+    /// Whether an exclusion of a domain's values rests on the best.
+    pub fn any_rests(&self, domain: Domain) -> bool
+        ensures { result ≡ any_rests (exclusions_of self.now domain.decision) domain.size }
     {
-        for v in 1..size + 1 {
-            if self.rests(d, v) {
-                return true;
-            }
-        }
-        false
+        (1..domain.size + 1).any(|v| self.rests(domain.decision, v))
+    }
+
+    /// A set with the decisions of a value's reason, if it is excluded.
+    fn with_reason(&self, all: DecisionSet, d: u8, v: u8) -> DecisionSet
+        ensures { members result ≡ either (members all) (reason_of (exclusions_of self.now d v)) }
+    {
+        self.get(d, v).map_or(all, |(reason, _)| all.union(reason))
     }
 
     /// Whether a value is excluded by what rests on the best.
     fn rests(&self, d: u8, v: u8) -> bool
         ensures { result ≡ rests_on (exclusions_of self.now d v) }
     {
-        match self.get(d, v) {
-            Some((_, rests)) => rests,
-            None => false,
-        }
+        self.get(d, v).is_some_and(|(_, rests)| rests)
     }
 
     /// Takes every exclusion out whose reason has a decision that left.
@@ -179,7 +143,7 @@ impl Exclusions {
         requires { count ≤ 64 }
         ensures { exclusions_of self.new ≡ (λ d v. keep_if (λ e. empty_below e.reason count && (resting || not e.rests)) (exclusions_of self.old d v)) }
     {
-        self.retain(first_decisions(count), resting);
+        self.retain(DecisionSet::first(count), resting);
     }
 
     /// Takes every exclusion out whose reason has a decision of a set, and unless `resting` those that rest on the best.
@@ -198,22 +162,15 @@ impl Exclusions {
     fn spared_values(&self, d: u8, barred: DecisionSet, resting: bool) -> ValueSet
         ensures { values result ≡ (λ v. not (is_free (keep_if (spared (members barred) resting) (exclusions_of self.now d v)))) }
     {
-        let mut stays = ValueSet { bits: 0 };
-        for v in 1..17u8 {
-            if self.spares(d, v, barred, resting) {
-                stays = stays.with(v);
-            }
-        }
-        stays
+        (1..17u8)
+            .filter(|v| self.spares(d, *v, barred, resting))
+            .fold(ValueSet::empty(), |stays, v| stays.with(v))
     }
 
     /// Whether a value is excluded and spared.
     fn spares(&self, d: u8, v: u8, barred: DecisionSet, resting: bool) -> bool
         ensures { result ≡ not (is_free (keep_if (spared (members barred) resting) (exclusions_of self.now d v))) }
     {
-        match self.get(d, v) {
-            Some((reason, rests)) => !reason.meets(barred) && (resting || !rests),
-            None => false,
-        }
+        self.get(d, v).is_some_and(|(reason, rests)| !reason.meets(barred) && (resting || !rests))
     }
 }

@@ -1,9 +1,10 @@
 //! The trail of a planner: its choices so far.
-ghost use Rattle.std.specs.Prelude.{◌≡◌, ℕ, ◌≤◌, true, length, slice_index};
+ghost use Rattle.std.specs.Prelude.{◌≡◌, ℕ, true, length, slice_index};
 ghost use Rattle.account.specs.Accounts.{chosen};
-ghost use Rattle.tables.specs.Entries.{entries_of, proper};
+ghost use Rattle.tables.specs.Entries.{newest_first, proper};
 
 use crate::Entry;
+use arrayvec::ArrayVec;
 
 mod moves;
 
@@ -11,12 +12,10 @@ mod moves;
 /// not on the trail.
 #[derive(Drop)]
 pub struct Trail {
-    entries: [Entry; 64],
-    count: usize,
+    entries: ArrayVec<Entry, 64>,
+    /// Kept beside the entries, since every step reads the plan.
     values: [u8; 64],
-    ghost few: { count ≤ 64 },
-    ghost full: { length entries ≡ 64 },
     ghost wide: { length values ≡ 64 },
-    ghost distinct: { proper (entries_of entries count) ≡ true },
-    ghost planned: { ((d : ℕ) → slice_index values d ≡ chosen (entries_of entries count) d) },
+    ghost distinct: { proper (newest_first entries.items) ≡ true },
+    ghost planned: { ((d : ℕ) → slice_index values d ≡ chosen (newest_first entries.items) d) },
 }

@@ -10,20 +10,20 @@ ghost use Rattle.tables.specs.Tables.{table_rows};
 ghost use Rattle.planner.specs.Books.{book_of, over_decisions, with_decisions};
 
 use crate::book::Book;
+use arrayvec::ArrayVec;
 use rules::{Decision, Kind, Row};
-use tables::RuleTable;
-
-/// No decision: what stands behind the last.
-const ABSENT: Decision = Decision { size: 0, on: false };
+use tables::{Domain, RuleTable};
 
 impl Book {
+    ghost use Rattle.std.specs.Borrow.{sem};
+    ghost use Rattle.planner.specs.Lending.{LendsTable};
+
     /// A book of no decisions and no rules.
     pub fn new() -> Book
         ensures { book_of result ≡ over_decisions [] }
     {
         Book {
-            decisions: [ABSENT; 64],
-            count: 0,
+            decisions: ArrayVec::new(),
             forbids: RuleTable::new(),
             activates: RuleTable::new(),
             prices: RuleTable::new(),
@@ -46,9 +46,9 @@ impl Book {
         requires { open_refusal decisions.now ≡ None }
         ensures { book_of self.new ≡ with_decisions (book_of self.old) decisions.now }
     {
-        let front = &mut self.decisions[0..decisions.len()];
-        front.copy_from_slice(decisions);
-        self.count = decisions.len();
+        self.decisions.clear();
+        // Accepted decisions are 64 at most, so they fit.
+        let _ = self.decisions.try_extend_from_slice(decisions);
     }
 
     /// The decisions.
@@ -57,16 +57,17 @@ impl Book {
         ensures few { length result.now ≤ 64 }
         ensures sizes { sized result.now ≡ true }
     {
-        &self.decisions[0..self.count]
+        self.decisions.as_slice()
     }
 
-    /// How many values a decision has.
-    pub fn size_of(&self, decision: u8) -> u8
+    /// The domain of a decision.
+    pub fn domain(&self, decision: u8) -> Domain
         requires { decision < length (book_of self.now).decisions }
-        ensures value { result ≡ size_at (book_of self.now).decisions decision }
-        ensures few { result ≤ 16 }
+        ensures same { result.decision ≡ decision }
+        ensures size { result.size ≡ size_at (book_of self.now).decisions decision }
     {
-        self.decisions()[decision as usize].size
+        let size = self.decisions()[decision as usize].size;
+        Domain { decision, size }
     }
 
     /// The table of the rules of a kind.
@@ -77,6 +78,18 @@ impl Book {
             Kind::Forbid => &self.forbids,
             Kind::Activate => &self.activates,
             Kind::Price => &self.prices,
+        }
+    }
+
+    /// The table of the rules of a kind, for changes.
+    fn table_mut(&mut self, kind: Kind) -> &mut RuleTable
+        ensures* writes_back { sem 𝓛 (LendsTable self.entry kind result) }
+        ensures value { table_rows result.now ≡ held (book_of self.old) kind }
+    {
+        match kind {
+            Kind::Forbid => &mut self.forbids,
+            Kind::Activate => &mut self.activates,
+            Kind::Price => &mut self.prices,
         }
     }
 
@@ -96,11 +109,7 @@ impl Book {
         requires room { length (held (book_of self.old) row.kind) < 256 }
         ensures { book_of self.new ≡ with_rules (book_of self.old) row.kind (held (book_of self.old) row.kind ++ row ∷ []) }
     {
-        match row.kind {
-            Kind::Forbid => self.forbids.push(row),
-            Kind::Activate => self.activates.push(row),
-            Kind::Price => self.prices.push(row),
-        }
+        self.table_mut(row.kind).push(row);
     }
 
     /// Takes out the rule of a kind at a place; later ones of the kind move down by one.
@@ -108,10 +117,6 @@ impl Book {
         requires { place < length (held (book_of self.old) kind) }
         ensures { book_of self.new ≡ with_rules (book_of self.old) kind (remove (held (book_of self.old) kind) place) }
     {
-        match kind {
-            Kind::Forbid => self.forbids.remove(place),
-            Kind::Activate => self.activates.remove(place),
-            Kind::Price => self.prices.remove(place),
-        }
+        self.table_mut(kind).remove(place);
     }
 }

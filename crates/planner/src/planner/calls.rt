@@ -1,11 +1,13 @@
 //! The calls on a planner that leave its rules alone.
-ghost use Rattle.std.specs.Prelude.{◌≡◌, ◌≤◌, true, false, List, [], length, is_ok, None};
+ghost use Rattle.std.specs.Prelude.{◌≡◌, ◌<◌, ◌≤◌, true, false, List, [], length, is_ok, None, IfOk, IfErr};
 ghost use Rattle.account.specs.Accounts.{fresh};
 ghost use Rattle.account.specs.Calls.{Call, after, answer, best, exclusion, rank as rank_call, run, unexcluded};
 ghost use Rattle.account.specs.Changes.{held};
 ghost use Rattle.account.specs.Law.{PlanningLaw};
 ghost use Rattle.rules.specs.Judging.{open_refusal, sized};
+ghost use Rattle.rules.specs.Plans.{size_at};
 ghost use Rattle.rules.specs.Refusals.{as_result, unless_refused};
+ghost use Rattle.rules.specs.declared.refusal.Refusal.TheVariants.{UnknownDecision};
 ghost use Rattle.tables.specs.Shapes.{all_shaped};
 ghost use Rattle.planner.specs.Answers.{says_best, says_counted, says_done, says_excluded, says_ran};
 ghost use Rattle.planner.specs.Planners.{account_of, is_open};
@@ -15,8 +17,9 @@ use crate::planner::Planner;
 use account::State;
 use measure::Measure;
 use rules::{Decision, Kind, Refusal, Row, check_decisions};
+use scans::SuffixCosts;
 use sets::DecisionSet;
-use tables::{Exclusions, Trail};
+use tables::{Domain, Exclusions, Trail};
 
 /// The most steps that a run may be given.
 const MOST_STEPS: u32 = 1_000_000;
@@ -33,7 +36,7 @@ impl<M: Measure> Planner<M> {
             exclusions: Exclusions::new(),
             best: None,
             state: State::Open,
-            costs: [M::neutral(); 257],
+            costs: SuffixCosts::new(),
         }
     }
 
@@ -80,15 +83,24 @@ impl<M: Measure> Planner<M> {
         self.book.rows(kind)
     }
 
+    /// The domain of a decision. Refuses an unknown decision.
+    fn domain(&self, decision: u8) -> Result<Domain, Refusal>
+        ensures known { IfOk result (λ d. (d.decision ≡ decision) × (d.size ≡ size_at (account_of self.now).book.decisions decision) × (decision < length (account_of self.now).book.decisions)) }
+        ensures refused { IfErr result (λ e. (e ≡ UnknownDecision) × (length (account_of self.now).book.decisions ≤ decision)) }
+    {
+        if decision as usize >= self.decisions().len() {
+            return Err(Refusal::UnknownDecision);
+        }
+        Ok(self.book.domain(decision))
+    }
+
     /// Sets the rank of a decision. Refuses an unknown decision.
     pub fn rank(&mut self, decision: u8, rank: u8) -> Result<(), Refusal>
         ensures value { says_done result ≡ answer M.meaning (account_of self.old) (rank_call decision rank) }
         ensures after { account_of self.new ≡ after M.meaning (account_of self.old) (rank_call decision rank) }
     {
-        if decision as usize >= self.decisions().len() {
-            return Err(Refusal::UnknownDecision);
-        }
-        self.ranks[decision as usize] = rank;
+        let domain = self.domain(decision)?;
+        self.ranks[domain.decision as usize] = rank;
         Ok(())
     }
 
@@ -101,19 +113,20 @@ impl<M: Measure> Planner<M> {
         if budget > MOST_STEPS {
             return Err(Refusal::BudgetTooLarge);
         }
-        let mut made = 0;
-        while made < budget && self.is_open() {
+        for made in 0..budget {
+            if !self.is_open() {
+                return Ok((made, self.state));
+            }
             self.step();
-            made += 1;
         }
-        Ok((made, self.state))
+        Ok((budget, self.state))
     }
 
     /// Whether steps can be made.
     fn is_open(&self) -> bool
         ensures { result ≡ is_open (account_of self.now).state }
     {
-        matches!(self.state, State::Open)
+        self.state == State::Open
     }
 
     /// The state, and if a best is held its cost; the best's plan is then written, a byte for each decision: its
@@ -141,10 +154,8 @@ impl<M: Measure> Planner<M> {
     pub fn exclusion(&self, decision: u8, value: u8) -> Result<Option<(DecisionSet, bool)>, Refusal>
         ensures { says_excluded result ≡ answer M.meaning (account_of self.now) (exclusion decision value) }
     {
-        if decision as usize >= self.decisions().len() {
-            return Err(Refusal::UnknownDecision);
-        }
-        if value < 1 || value > self.book.size_of(decision) {
+        let domain = self.domain(decision)?;
+        if value < 1 || value > domain.size {
             return Err(Refusal::UnknownValue);
         }
         Ok(self.exclusions.get(decision, value))
@@ -154,10 +165,7 @@ impl<M: Measure> Planner<M> {
     pub fn unexcluded(&self, decision: u8) -> Result<u8, Refusal>
         ensures { says_counted result ≡ answer M.meaning (account_of self.now) (unexcluded decision) }
     {
-        if decision as usize >= self.decisions().len() {
-            return Err(Refusal::UnknownDecision);
-        }
-        let size = self.book.size_of(decision);
-        Ok(self.exclusions.count_free(decision, size))
+        let domain = self.domain(decision)?;
+        Ok(self.exclusions.count_free(domain))
     }
 }

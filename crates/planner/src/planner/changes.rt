@@ -76,10 +76,7 @@ impl<M: Measure> Planner<M> {
     fn best_meets(&self, row: &Row) -> bool
         ensures { result ≡ best_meets (account_of self.now).best row.now }
     {
-        match self.best {
-            Some(best) => row.met(&best.plan),
-            None => false,
-        }
+        self.best.is_some_and(|best| row.met(&best.plan))
     }
 
     /// Empties the trail and opens the state; of the exclusions those with an empty reason stay, and of these the ones

@@ -8,11 +8,12 @@ ghost use Rattle.planner.specs.Planners.{account_of};
 
 use crate::pick::{pick_decision, support_of};
 use crate::planner::Planner;
-use crate::trials::try_values;
+use crate::trials::Trials;
 use crate::weighing::weigh;
 use account::State;
 use measure::Measure;
 use sets::DecisionSet;
+use tables::Choice;
 
 impl<M: Measure> Planner<M> {
     /// Retreats from a blame: the latest blamed entry leaves, with what rested on it for support, and its value is
@@ -24,12 +25,12 @@ impl<M: Measure> Planner<M> {
             Some(retreat) => {
                 let culprit = retreat.culprit;
                 self.exclusions.forget(retreat.left);
-                self.exclusions.put(
-                    culprit.decision,
-                    culprit.value,
-                    blamed.without(culprit.decision),
-                    rests,
-                );
+                let choice = Choice {
+                    decision: culprit.decision,
+                    value: culprit.value,
+                };
+                let reason = blamed.without(culprit.decision);
+                self.exclusions.put(choice, reason, rests);
             }
             None => self.state = State::Settled,
         }
@@ -39,10 +40,7 @@ impl<M: Measure> Planner<M> {
     fn best_cost(&self) -> Option<M>
         ensures { result ≡ cost_held (account_of self.now).best }
     {
-        match self.best {
-            Some(best) => Some(best.cost),
-            None => None,
-        }
+        self.best.map(|best| best.cost)
     }
 
     /// A step that picks a decision: its values are tested, and the smallest free one enters the trail, or all are
@@ -52,24 +50,21 @@ impl<M: Measure> Planner<M> {
         requires idle { chosen (account_of self.old).trail decision ≡ 0 }
         ensures { account_of self.new ≡ extend M.meaning (account_of self.old) decision }
     {
-        let size = self.book.size_of(decision);
-        let plan = *self.trail.plan();
+        let domain = self.book.domain(decision);
         let best = self.best_cost();
-        try_values(
-            &self.book,
+        let plan = self.trail.plan();
+        let trials = Trials {
+            book: &self.book,
             best,
-            &mut self.costs,
-            &mut self.exclusions,
-            &plan,
-            decision,
-            size,
-        );
-        let support = support_of(&self.book, &plan, decision);
-        match self.exclusions.smallest_free(decision, size) {
-            Some(value) => self.trail.push(decision, value, support),
+            domain,
+        };
+        trials.try_values(plan, &mut self.costs, &mut self.exclusions);
+        let support = support_of(&self.book, plan, decision);
+        match self.exclusions.smallest_free(domain) {
+            Some(value) => self.trail.push(Choice { decision, value }, support),
             None => {
-                let blamed = self.exclusions.reasons_of(decision, size).union(support);
-                let rests = self.exclusions.any_rests(decision, size);
+                let blamed = self.exclusions.reasons_of(domain).union(support);
+                let rests = self.exclusions.any_rests(domain);
                 self.retreat(blamed, rests);
             }
         }
@@ -79,9 +74,8 @@ impl<M: Measure> Planner<M> {
     fn conclude(&mut self)
         ensures { account_of self.new ≡ conclude M.meaning (account_of self.old) }
     {
-        let plan = *self.trail.plan();
-        let held = self.best;
-        let (best, blamed) = weigh(&self.book, held, &mut self.costs, plan);
+        let plan = self.trail.plan();
+        let (best, blamed) = weigh(&self.book, self.best, plan, &mut self.costs);
         self.best = Some(best);
         self.retreat(blamed, true);
     }

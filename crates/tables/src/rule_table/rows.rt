@@ -5,20 +5,8 @@ ghost use Rattle.tables.specs.Shapes.{all_shaped, shaped};
 ghost use Rattle.tables.specs.Tables.{table_rows};
 
 use crate::rule_table::RuleTable;
-use measure::Price;
-use rules::{Kind, Literal, Row};
-
-/// What stands in a place that is not in use.
-const BLANK: Row = Row {
-    kind: Kind::Forbid,
-    count: 0,
-    pairs: [Literal {
-        decision: 0,
-        value: 0,
-    }; 4],
-    target: 0,
-    price: Price { tier: 0, cents: 0 },
-};
+use arrayvec::ArrayVec;
+use rules::Row;
 
 impl RuleTable {
     /// A table of no rule.
@@ -26,8 +14,7 @@ impl RuleTable {
         ensures { table_rows result ≡ [] }
     {
         RuleTable {
-            rows: [BLANK; 256],
-            count: 0,
+            rows: ArrayVec::new(),
         }
     }
 
@@ -35,7 +22,7 @@ impl RuleTable {
     pub fn clear(&mut self)
         ensures { table_rows self.new ≡ [] }
     {
-        self.count = 0;
+        self.rows.clear();
     }
 
     /// The rows, in place order.
@@ -44,14 +31,14 @@ impl RuleTable {
         ensures shapes { all_shaped result.now ≡ true }
         ensures few { length result.now ≤ 256 }
     {
-        &self.rows[0..self.count]
+        self.rows.as_slice()
     }
 
     /// How many rules there are.
     pub fn len(&self) -> usize
         ensures { result ≡ length (table_rows self.now) }
     {
-        self.rows().len()
+        self.rows.len()
     }
 
     /// Puts one more rule behind the others.
@@ -60,8 +47,7 @@ impl RuleTable {
         requires room { length (table_rows self.old) < 256 }
         ensures { table_rows self.new ≡ table_rows self.old ++ row ∷ [] }
     {
-        self.rows[self.count] = row;
-        self.count += 1;
+        self.rows.push(row);
     }
 
     /// Takes a rule out; those behind it move up by one place.
@@ -69,7 +55,6 @@ impl RuleTable {
         requires { place < length (table_rows self.old) }
         ensures { table_rows self.new ≡ remove (table_rows self.old) place }
     {
-        self.rows.copy_within(place + 1..self.count, place);
-        self.count -= 1;
+        self.rows.remove(place);
     }
 }

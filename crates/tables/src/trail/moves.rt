@@ -3,11 +3,12 @@ ghost use Rattle.std.specs.Prelude.{◌≡◌, ◌+◌, ◌-◌, ◌<◌, ◌≤
 ghost use Rattle.account.specs.Accounts.{chosen};
 ghost use Rattle.rules.specs.Conditions.{from_bytes};
 ghost use Rattle.sets.specs.Members.{members};
-ghost use Rattle.tables.specs.Entries.{entries_of, proper};
+ghost use Rattle.tables.specs.Entries.{newest_first, proper};
 ghost use Rattle.tables.specs.Retreats.{Latest, Retreated, Sweeping, swept};
 ghost use Rattle.tables.specs.Trails.{trail_of};
 
-use crate::{Entry, Retreat, Trail};
+use crate::{Choice, Entry, Retreat, Trail};
+use arrayvec::ArrayVec;
 use sets::DecisionSet;
 
 impl Trail {
@@ -15,14 +16,8 @@ impl Trail {
     pub fn new() -> Trail
         ensures { trail_of result ≡ [] }
     {
-        let blank = Entry {
-            decision: 0,
-            value: 0,
-            support: DecisionSet::empty(),
-        };
         Trail {
-            entries: [blank; 64],
-            count: 0,
+            entries: ArrayVec::new(),
             values: [0; 64],
         }
     }
@@ -31,7 +26,7 @@ impl Trail {
     pub fn clear(&mut self)
         ensures { trail_of self.new ≡ [] }
     {
-        self.count = 0;
+        self.entries.clear();
         self.values = [0; 64];
     }
 
@@ -44,32 +39,26 @@ impl Trail {
     }
 
     /// Puts a decision that is not on the trail onto it.
-    pub fn push(&mut self, decision: u8, value: u8, support: DecisionSet)
-        requires known { decision < 64 }
-        requires some { 1 ≤ value }
-        requires few { value ≤ 16 }
-        requires idle { chosen (trail_of self.old) decision ≡ 0 }
-        ensures { trail_of self.new ≡ record { decision = decision; value = value; support = members support } ∷ trail_of self.old }
+    pub fn push(&mut self, choice: Choice, support: DecisionSet)
+        requires { chosen (trail_of self.old) choice.decision ≡ 0 }
+        ensures { trail_of self.new ≡ record { decision = choice.decision; value = choice.value; support = members support } ∷ trail_of self.old }
     {
-        self.entries[self.count] = Entry {
+        let Choice { decision, value } = choice;
+        self.entries.push(Entry {
             decision,
             value,
             support,
-        };
+        });
         self.values[decision as usize] = value;
-        self.count += 1;
     }
 
     /// The place of the latest entry whose decision is in a blame.
     fn latest_in(&self, blame: DecisionSet) -> Option<usize>
-        ensures { Latest (members blame) self.now.entries self.now.count result }
+        ensures { Latest (members blame) self.now.entries.items result }
     {
-        for i in (0..self.count).rev() {
-            if blame.has(self.entries[i].decision) {
-                return Some(i);
-            }
-        }
-        None
+        self.entries
+            .iter()
+            .rposition(|entry| blame.has(entry.decision))
     }
 
     /// Takes the latest entry whose decision is in the blame off the trail, with every later entry whose support has
@@ -79,33 +68,26 @@ impl Trail {
     {
         let at = self.latest_in(blame)?;
         let culprit = self.entries[at];
-        let (count, left) = sweep(&mut self.entries, &mut self.values, at, self.count);
-        self.count = count;
+        let (count, left) = sweep(self.entries.as_mut_slice(), &mut self.values, at);
+        self.entries.truncate(count);
         Some(Retreat { culprit, left })
     }
 }
 
-/// Takes the entry at a place out of the first `count`, with every later one whose support has a decision that
-/// leaves. The others move up, and what leaves has the value 0. Answers how many stay, and the decisions that left.
-fn sweep(
-    entries: &mut [Entry; 64],
-    values: &mut [u8; 64],
-    at: usize,
-    count: usize,
-) -> (usize, DecisionSet)
-    requires within { at < count }
-    requires few { count ≤ 64 }
-    requires full { length entries.old ≡ 64 }
+/// Takes the entry at a place out, with every later one whose support has a decision that leaves. The others move up,
+/// and what leaves has the value 0. Answers how many stay, and the decisions that left.
+fn sweep(entries: &mut [Entry], values: &mut [u8; 64], at: usize) -> (usize, DecisionSet)
+    requires within { at < length entries.old }
     requires wide { length values.old ≡ 64 }
-    requires distinct { proper (entries_of entries.old count) ≡ true }
-    ensures few { result.0 ≤ 64 }
-    ensures after { Sweeping entries.old values.old (swept entries.old at (count - (at + 1))) entries.new values.new result.0 (members result.1) }
+    requires distinct { proper (newest_first entries.old) ≡ true }
+    ensures few { result.0 ≤ length entries.old }
+    ensures after { Sweeping entries.old values.old (swept entries.old at (length entries.old - (at + 1))) entries.new values.new result.0 (members result.1) }
 {
     let culprit = entries[at].decision;
     let mut left = DecisionSet::empty().with(culprit);
     values[culprit as usize] = 0;
     let mut place = at;
-    for i in at + 1..count {
+    for i in at + 1..entries.len() {
         let entry = entries[i];
         if entry.support.meets(left) {
             left = left.with(entry.decision);

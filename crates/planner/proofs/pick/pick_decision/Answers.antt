@@ -8,7 +8,7 @@ use Rattle.planner.proofs.pick.pick_decision.Goals as goal
 
 pub preferred-picked-requires : goal.preferred-picked-requires
 preferred-picked-requires c =
-    record { ranked = c.requires.ranked; known = omega (arith, c.decisions-decisions.ensures.few); low = c.loop-i.invariant.1 }
+    record { known = omega (arith, c.decisions-decisions.ensures.few); low = c.loop-i.invariant.1 }
 
 pub loop-i-preserved : goal.loop-i-preserved
 loop-i-preserved c =

@@ -1,4 +1,4 @@
-use Rattle.std.proofs.Common.{◌≡◌, ◌-◌, ◌≤◌}
+use Rattle.std.proofs.Common.{◌≡◌}
 use Rattle.account.specs.Calls.{made}
 use Rattle.account.specs.Steps.{advance}
 use Rattle.planner.specs.Planners.{account_of}
@@ -8,7 +8,4 @@ abbrev pub invariant-loop-made : goal.invariant-loop-made
 invariant-loop-made g l =
     let m = g.M.Measure.meaning in
     let a = account_of l.initial.self in
-    (l.made ≤ l.budget) × (account_of l.self ≡ advance m l.made a) × (l.made ≡ made m l.made a)
-
-abbrev pub decreases-loop-made : goal.decreases-loop-made
-decreases-loop-made g l = l.budget - l.made
+    (account_of l.self ≡ advance m l.made a) × (l.made ≡ made m l.made a)

@@ -7,8 +7,8 @@ use Rattle.tables.proofs.exclusions.Exclusions.put.Goals as goal
 pub returns : goal.returns
 returns c =
     let x = c.args.self.now in
-    let d = c.args.d in
-    let v = c.args.v in
+    let d = c.args.choice.decision in
+    let v = c.args.choice.value in
     ap (λ (k : ℕ). exclusions_of (record { excluded = set x.excluded d c.with.result; resting = set x.resting d c.marked.result; reasons = set x.reasons k c.args.reason.bits })) c.cell.ensures.value
-    ∙ put_is x d v c.with.result c.marked.result c.args.reason.bits c.args.rests c.requires.known c.requires.low c.requires.high (omega arith) (omega arith) (omega arith)
-    (marked_in (get_or x.excluded d no_value) c.with.result v c.requires.low c.requires.high c.with.ensures) c.marked.ensures
+    ∙ put_is x d v c.with.result c.marked.result c.args.reason.bits c.args.rests c.args.choice.known c.args.choice.some c.args.choice.few (omega arith) (omega arith) (omega arith)
+    (marked_in (get_or x.excluded d no_value) c.with.result v c.args.choice.some c.args.choice.few c.with.ensures) c.marked.ensures

@@ -8,6 +8,6 @@ use Rattle.tables.proofs.exclusions.Exclusions.smallest_free.Goals as goal
 pub returns : goal.returns
 returns c =
     let x = c.args.self.now in
-    let d = c.args.d in
+    let d = c.args.domain.decision in
     let t = values (get_or x.excluded d no_value) in
-    c.smallest_outside.ensures ∙ ap (smallest_outside t) (whole_size c.args.size c.requires.few) ∙ smallest_free_lem (exclusions_of x d) t (λ v. free_at x d v c.requires.known) c.args.size
+    c.smallest_outside.ensures ∙ ap (smallest_outside t) (whole_size c.args.domain.size c.args.domain.few) ∙ smallest_free_lem (exclusions_of x d) t (λ v. free_at x d v c.args.domain.known) c.args.domain.size

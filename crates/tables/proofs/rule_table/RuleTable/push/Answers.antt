@@ -1,21 +1,5 @@
-use Rattle.std.proofs.Common.{◌<◌, take, ap, ◌∙◌, arith}
-use Rattle.std.proofs.lemmas.List.{length-set, length-take, take_more_set}
-use Rattle.tables.specs.Shapes.{all_shaped}
 use Rattle.tables.proofs.RowEdits.{shaped_push}
 use Rattle.tables.proofs.rule_table.RuleTable.push.Goals as goal
 
 pub invariant_of-self : goal.invariant_of-self
-invariant_of-self c =
-    let t = c.args.self.now in
-    let room : t.count < 256 = omega (arith, length-take t.count t.rows, c.requires.room) in
-    let after = take_more_set t.rows t.count c.args.row (omega arith) in
-    record {
-      few = omega arith;
-      full = length-set t.rows t.count c.args.row ∙ t.full;
-      shapes = ap all_shaped after ∙ shaped_push (take t.count t.rows) c.args.row t.shapes c.requires.shape;
-    }
-
-pub returns : goal.returns
-returns c =
-    let t = c.args.self.now in
-    take_more_set t.rows t.count c.args.row (omega (arith, length-take t.count t.rows, c.requires.room))
+invariant_of-self c = rw c.push.ensures.items (record { shapes = shaped_push c.args.self.now.rows.items c.args.row c.args.self.now.shapes c.requires.shape })

@@ -9,8 +9,8 @@ use Rattle.rules.specs.Judging.{known_decisions}
 use Rattle.sets.specs.Members.{members}
 use Rattle.sets.specs.declared.decision_set.DecisionSet.{DecisionSet}
 use Rattle.scans.proofs.Gathered.{gather_kept, skip_spared}
-use Rattle.scans.proofs.prices.kept_named.Goals as goal
-use Rattle.scans.proofs.prices.kept_named.Goals.{then-is_kept, else-is_kept}
+use Rattle.scans.proofs.prices.SuffixCosts.kept_named.Goals as goal
+use Rattle.scans.proofs.prices.SuffixCosts.kept_named.Goals.{then-is_kept, else-is_kept}
 
 pub named-requires : goal.named-requires
 named-requires g c = All-get_or (λ r. known_decisions 64 (condition r) ≡ true) c.args.rows.now c.loop-i.i _ c.loop-i-test.true c.requires.known

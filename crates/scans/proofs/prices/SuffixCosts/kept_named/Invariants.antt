@@ -2,7 +2,7 @@ use Rattle.std.proofs.Common.{◌≡◌, ℕ, ◌||◌, drop}
 use Rattle.account.specs.Steps.{kept, named_in}
 use Rattle.rules.specs.Conditions.{from_bytes}
 use Rattle.sets.specs.Members.{members}
-use Rattle.scans.proofs.prices.kept_named.Given as goal
+use Rattle.scans.proofs.prices.SuffixCosts.kept_named.Given as goal
 
 abbrev pub invariant-loop-i : goal.invariant-loop-i
 invariant-loop-i g l =

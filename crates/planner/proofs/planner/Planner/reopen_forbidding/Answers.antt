@@ -1,0 +1,10 @@
+use Rattle.std.proofs.Common.{Option, ap, not, ◌||◌, ◌∙◌}
+use Rattle.account.specs.Accounts.{Best}
+use Rattle.account.specs.Changes.{reopened}
+use Rattle.planner.specs.Planners.{account_of}
+use Rattle.planner.proofs.planner.Planner.reopen_forbidding.Goals as goal
+
+pub returns : goal.returns
+returns g c =
+    let a = account_of c.args.self.now in
+    c.reopen.ensures ∙ ap (λ (o : Option (Best _)). reopened a a.book o (λ e. not c.args.met || not e.rests)) c.best_unless-self.ensures
