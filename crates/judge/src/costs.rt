@@ -3,7 +3,7 @@ ghost use Rattle.judge.specs.Costed.{Costed};
 
 use crate::book::Book;
 use measure::{Cents, CentsThenTier, Measure, Tier, TierThenCents};
-use rules::{Breach, Refusal, Verdict};
+use rules::{Breach, Refusal};
 use std::fmt;
 
 /// A lawful plan's cost under each measure.
@@ -27,8 +27,8 @@ fn cost<M: Measure>(book: &Book, plan: &[u8]) -> Result<M, Fault>
     ensures { Costed M.meaning book.now.decisions book.now.rows plan.now result }
 {
     match rules::judge(&book.decisions, &book.rows, plan) {
-        Ok(Verdict::Lawful(cost)) => Ok(cost),
-        Ok(Verdict::Broken(breach)) => Err(Fault::Unlawful(breach)),
+        Ok(Ok(cost)) => Ok(cost),
+        Ok(Err(breach)) => Err(Fault::Unlawful(breach)),
         Err(refusal) => Err(Fault::Refused(refusal)),
     }
 }

@@ -1,5 +1,5 @@
 -- What the loops of judging find is what a verdict says.
-use Rattle.std.proofs.Common.{◌≡◌, ℕ, suc, ◌+◌, ◌-◌, ◌<◌, ◌≤◌, Bool, true, false, cond, not, ◌&&◌, ◌||◌, eqb, ltb, List, [], ◌∷◌, length, get_or, take, Some, None, Ok, sym, refl, ap, ◌∙◌, subst, ⊎_elim, arith, length-take, get_or-take}
+use Rattle.std.proofs.Common.{◌≡◌, ℕ, suc, ◌+◌, ◌-◌, ◌<◌, ◌≤◌, Bool, true, false, cond, not, ◌&&◌, ◌||◌, eqb, ltb, List, [], ◌∷◌, length, get_or, take, Some, None, Ok, Err, sym, refl, ap, ◌∙◌, subst, ⊎_elim, arith, length-take, get_or-take}
 use mathlib.Core.Path.{fun_ext}
 use native.Mathlib.Nat.{sub-zero}
 use lib.ListN.{get_or-eq_default}
@@ -94,11 +94,11 @@ module _ (b : Book) (p : Plan) (known : Targets (length b.decisions) b.activates
       go false a k = idle_case a (ltb 0 (p d)) refl k
 
   -- the first misfit is a breach
-  pub misfit_breaks : (n : ℕ) (x : Breach) → FirstMisfit b.decisions (active b p) p n (Some x) → Breaks b p x
+  pub misfit_breaks : (n : ℕ) (x : Breach) → FirstMisfit b.decisions (active b p) p n (Err x) → Breaks b p x
   misfit_breaks n x (d, l, none, here) = breaks_from d x (λ e k. fits_from e (none e k)) here
 
   -- where there is none, every decision is treated lawfully
-  pub no_misfit_fits : (n : ℕ) → FirstMisfit b.decisions (active b p) p n None → FitsBelow b p n
+  pub no_misfit_fits : (n : ℕ) → FirstMisfit b.decisions (active b p) p n (Ok tt) → FitsBelow b p n
   no_misfit_fits n none = λ e k. fits_from e (none e k)
 
 -- the place that is found is that of the first met row
@@ -146,13 +146,13 @@ module _ (ds : List Decision) (rs : List Row) (p : Plan) (accepted : open_refusa
   targets : Targets (length ds) (activates rs)
   targets = targets_kept (length ds) rs (targets_below ds (length ds) rs (omega arith) known)
 
-  pub found_misfit : (x : Breach) → FirstMisfit ds (active (book_of ds rs) p) p (length ds) (Some x) → Breaks (book_of ds rs) p x
+  pub found_misfit : (x : Breach) → FirstMisfit ds (active (book_of ds rs) p) p (length ds) (Err x) → Breaks (book_of ds rs) p x
   found_misfit x h = misfit_breaks (book_of ds rs) p targets (length ds) x h
 
-  pub found_forbidden : (k : ℕ) → FirstMisfit ds (active (book_of ds rs) p) p (length ds) None → place_from 0 (forbids rs) p ≡ Some k → Breaks (book_of ds rs) p (Forbidden k)
+  pub found_forbidden : (k : ℕ) → FirstMisfit ds (active (book_of ds rs) p) p (length ds) (Ok tt) → place_from 0 (forbids rs) p ≡ Some k → Breaks (book_of ds rs) p (Forbidden k)
   found_forbidden k fit h = (no_misfit_fits (book_of ds rs) p targets (length ds) fit, place_first k (forbids rs) p h)
 
-  pub found_nothing : ((d : ℕ) → length ds ≤ d → p d ≡ 0) → FirstMisfit ds (active (book_of ds rs) p) p (length ds) None → place_from 0 (forbids rs) p ≡ None → Lawful (book_of ds rs) p
+  pub found_nothing : ((d : ℕ) → length ds ≤ d → p d ≡ 0) → FirstMisfit ds (active (book_of ds rs) p) p (length ds) (Ok tt) → place_from 0 (forbids rs) p ≡ None → Lawful (book_of ds rs) p
   found_nothing idle fit h = lawful_from_fits (book_of ds rs) p targets (no_misfit_fits (book_of ds rs) p targets (length ds) fit) idle (place_none 0 (forbids rs) p h)
 
 -- judging is not refused where no check refuses

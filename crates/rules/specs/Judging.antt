@@ -13,8 +13,6 @@ use Rattle.rules.specs.declared.refusal.Refusal.TheVariants.{TooManyDecisions, S
 use Rattle.rules.specs.declared.row.Row.{Row}
 use Rattle.rules.specs.declared.verdict.Breach.{Breach}
 use Rattle.rules.specs.declared.verdict.Breach.TheVariants.{NotActive, NotChosen, OutOfRange, Forbidden}
-use Rattle.rules.specs.declared.verdict.Verdict.{Verdict}
-use Rattle.rules.specs.declared.verdict.Verdict.TheVariants.{Lawful as IsLawful, Broken}
 
 -- a decision has 1 to 16 values
 abbrev pub has_size : Decision → Bool
@@ -90,11 +88,11 @@ Breaks b p (OutOfRange d) = FitsBelow b p d × Active b p d × (size_at b.decisi
 Breaks b p (Forbidden k) = FitsBelow b p (length b.decisions) × FirstMet b.forbids p k
 
 -- what a verdict says: the plan is lawful at its cost, or breaks a law
-abbrev pub Judged : {C : Type 0} → Meaning C → Book → Plan → Verdict C → Type 0
-Judged m b p (IsLawful c) = Lawful b p × (c ≡ cost m b.prices p)
-Judged m b p (Broken x) = Breaks b p x
+abbrev pub Judged : {C : Type 0} → Meaning C → Book → Plan → Result C Breach → Type 0
+Judged m b p (Ok c) = Lawful b p × (c ≡ cost m b.prices p)
+Judged m b p (Err x) = Breaks b p x
 
 -- the whole answer: a refusal just on its ground, else a verdict that holds
-abbrev pub Answered : {C : Type 0} → Meaning C → List Decision → List Row → List ℕ → Result (Verdict C) Refusal → Type 0
+abbrev pub Answered : {C : Type 0} → Meaning C → List Decision → List Row → List ℕ → Result (Result C Breach) Refusal → Type 0
 Answered m ds rs bytes (Ok v) = (judge_refusal ds rs bytes ≡ None) × Judged m (book_of ds rs) (plan_of (length ds) bytes) v
 Answered m ds rs bytes (Err e) = judge_refusal ds rs bytes ≡ Some e

@@ -40,7 +40,7 @@ or_else (Some x) o = Some x
 or_else None o = o
 
 -- a refusal as the answer of a call that has nothing else to say
-abbrev pub as_result : Option Refusal → Result (Unit {0}) Refusal
+abbrev pub as_result : {E : Type 0} → Option E → Result (Unit {0}) E
 as_result (Some e) = Err e
 as_result None = Ok tt
 

@@ -1,5 +1,5 @@
 -- What the loops of judging find, by outcome.
-use Rattle.std.specs.Prelude.{◌≡◌, ℕ, ◌+◌, ◌<◌, Bool, true, false, cond, ◌&&◌, ◌||◌, List, [], ◌∷◌, Some, None, Option, ◌==◌, nat_lt, slice_index_or}
+use Rattle.std.specs.Prelude.{◌≡◌, ℕ, ◌+◌, ◌<◌, Bool, true, false, cond, ◌&&◌, ◌||◌, List, [], ◌∷◌, Some, None, Ok, Err, Option, Result, ◌==◌, nat_lt, slice_index_or}
 use Rattle.std.specs.List.{AllByRecursion}
 use Rattle.rules.specs.Compose.{is_activate}
 use Rattle.rules.specs.Conditions.{Plan, met}
@@ -22,10 +22,10 @@ misfit d size false v = when (nat_lt 0 v) (NotActive d)
 abbrev pub misfit_at : List Decision → Set → Plan → ℕ → Option Breach
 misfit_at ds s p d = misfit d (size_at ds d) (s d) (p d)
 
--- the first of n decisions that a plan mistreats, if there is one
-abbrev pub FirstMisfit : List Decision → Set → Plan → ℕ → Option Breach → Type 0
-FirstMisfit ds s p n None = (d : ℕ) → d < n → misfit_at ds s p d ≡ None
-FirstMisfit ds s p n (Some x) = (d : ℕ) × (d < n) × ((e : ℕ) → e < d → misfit_at ds s p e ≡ None) × (misfit_at ds s p d ≡ Some x)
+-- that a plan mistreats none of n decisions, else how it mistreats the first
+abbrev pub FirstMisfit : List Decision → Set → Plan → ℕ → Result (Unit {0}) Breach → Type 0
+FirstMisfit ds s p n (Ok u) = (d : ℕ) → d < n → misfit_at ds s p d ≡ None
+FirstMisfit ds s p n (Err x) = (d : ℕ) × (d < n) × ((e : ℕ) → e < d → misfit_at ds s p e ≡ None) × (misfit_at ds s p d ≡ Some x)
 
 -- the place of the first of these rows that a plan meets, counted from n
 abbrev pub place_from : ℕ → List Row → Plan → Option ℕ

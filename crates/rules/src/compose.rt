@@ -3,20 +3,11 @@ ghost use Rattle.std.specs.Prelude.{◌≡◌, ◌-◌, ◌≤◌, ◌++◌, len
 ghost use Rattle.rules.specs.Compose.{ascends, blank, compose_refusal, composed};
 ghost use Rattle.rules.specs.Refusals.{as_result};
 
-use crate::{Kind, Literal, Refusal, Row};
+use crate::{Kind, Literal, Refusal, Row, padded};
 use measure::Price;
 
 /// The most cents that a price rule may state.
 const MOST_CENTS: u32 = 1_000_000_000;
-
-/// What stands behind a rule's pairs.
-pub const BLANK: Literal = Literal {
-    decision: 0,
-    value: 0,
-};
-
-/// The price of a rule that has none.
-pub const FREE: Price = Price { tier: 0, cents: 0 };
 
 /// Whether the decisions of the pairs strictly ascend.
 fn ascend(pairs: &[Literal]) -> bool
@@ -49,17 +40,6 @@ pub fn check(kind: Kind, pairs: &[Literal], price: Price) -> Result<(), Refusal>
     Ok(())
 }
 
-/// The pairs, and blanks behind them.
-fn padded(pairs: &[Literal]) -> [Literal; 4]
-    requires { length pairs.now ≤ 4 }
-    ensures { result ≡ pairs.now ++ replicate (4 - length pairs.now) blank }
-{
-    let mut all = [BLANK; 4];
-    let front = &mut all[0..pairs.len()];
-    front.copy_from_slice(pairs);
-    all
-}
-
 /// The row of these parts; a target or a price that the kind lacks is 0.
 pub fn row_of(kind: Kind, pairs: &[Literal], target: u8, price: Price) -> Row
     requires { length pairs.now ≤ 4 }
@@ -68,8 +48,12 @@ pub fn row_of(kind: Kind, pairs: &[Literal], target: u8, price: Price) -> Row
     Row {
         kind,
         count: pairs.len() as u8,
-        pairs: padded(pairs),
+        pairs: padded(pairs, Literal::default()),
         target: if kind.is_activate() { target } else { 0 },
-        price: if kind.is_price() { price } else { FREE },
+        price: if kind.is_price() {
+            price
+        } else {
+            Price::default()
+        },
     }
 }

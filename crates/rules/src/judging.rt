@@ -1,9 +1,10 @@
 //! The judging of a plan by decisions and rules.
-ghost use Rattle.std.specs.Prelude.{◌≡◌, ◌≤◌, ◌&&◌, length, None, filter, MatchOption};
+ghost use Rattle.std.specs.Prelude.{◌≡◌, ◌≤◌, ◌&&◌, length, None, filter};
 ghost use Rattle.rules.specs.Compose.{is_forbid, is_price};
 ghost use Rattle.rules.specs.Conditions.{from_bytes, met};
-ghost use Rattle.rules.specs.Judging.{Answered, Breaks, book_of, open_refusal, rows_refusal};
-ghost use Rattle.rules.specs.Plans.{Lawful, cost};
+ghost use Rattle.rules.specs.Judging.{Answered, Judged, book_of, open_refusal, rows_refusal};
+ghost use Rattle.rules.specs.Plans.{cost};
+ghost use Rattle.rules.specs.Refusals.{as_result};
 ghost use Rattle.rules.specs.Searches.{FirstMisfit, from_flags, misfit, place_from};
 
 use crate::active::{Flags, active_decisions};
@@ -12,37 +13,32 @@ use crate::{Breach, Decision, Refusal, Row, Verdict};
 use measure::Measure;
 
 /// How a plan that gives a decision this value mistreats it.
-fn misfit_of(number: u8, size: u8, active: bool, value: u8) -> Option<Breach>
-    ensures { result ≡ misfit number size active value }
+fn check_choice(number: u8, size: u8, active: bool, value: u8) -> Result<(), Breach>
+    ensures { result ≡ as_result (misfit number size active value) }
 {
-    if !active {
-        if value > 0 {
-            return Some(Breach::NotActive(number));
-        }
-        return None;
+    if !active && value > 0 {
+        return Err(Breach::NotActive(number));
     }
-    if value == 0 {
-        return Some(Breach::NotChosen(number));
+    if active && value == 0 {
+        return Err(Breach::NotChosen(number));
     }
-    if value > size {
-        return Some(Breach::OutOfRange(number));
+    if active && value > size {
+        return Err(Breach::OutOfRange(number));
     }
-    None
+    Ok(())
 }
 
-/// The first decision that a plan mistreats.
-fn first_misfit(decisions: &[Decision], active: &Flags, plan: &[u8]) -> Option<Breach>
+/// Whether a plan chooses exactly the active decisions, each in its range; else how it mistreats the first that it does.
+fn check_choices(decisions: &[Decision], active: &Flags, plan: &[u8]) -> Result<(), Breach>
     requires few { length decisions.now ≤ 64 }
     requires long { length active.now ≡ 64 }
     requires enough { length decisions.now ≤ length plan.now }
     ensures { FirstMisfit decisions.now (from_flags active.now) (from_bytes plan.now) (length decisions.now) result }
 {
     for (i, decision) in decisions.iter().enumerate() {
-        if let Some(breach) = misfit_of(i as u8, decision.size, active[i], plan[i]) {
-            return Some(breach);
-        }
+        check_choice(i as u8, decision.size, active[i], plan[i])?;
     }
-    None
+    Ok(())
 }
 
 /// The place of the first forbid rule that a plan meets.
@@ -81,21 +77,19 @@ fn cost_of<M: Measure>(rows: &[Row], plan: &[u8]) -> M
     sum
 }
 
-/// The first law that a plan breaks.
-fn first_breach(decisions: &[Decision], rows: &[Row], plan: &[u8]) -> Option<Breach>
+/// Whether a plan is lawful, and its cost if it is; else the first law that it breaks.
+fn verdict<M: Measure>(decisions: &[Decision], rows: &[Row], plan: &[u8]) -> Verdict<M>
     requires accepted { open_refusal decisions.now ≡ None }
     requires known { rows_refusal decisions.now rows.now ≡ None }
     requires exact { length plan.now ≡ length decisions.now }
-    ensures { MatchOption result (Lawful (book_of decisions.now rows.now) (from_bytes plan.now)) (Breaks (book_of decisions.now rows.now) (from_bytes plan.now)) }
+    ensures { Judged M.meaning (book_of decisions.now rows.now) (from_bytes plan.now) result }
 {
     let active = active_decisions(decisions, rows, plan);
-    if let Some(breach) = first_misfit(decisions, &active, plan) {
-        return Some(breach);
+    check_choices(decisions, &active, plan)?;
+    if let Some(place) = first_forbidden(rows, plan) {
+        return Err(Breach::Forbidden(place));
     }
-    match first_forbidden(rows, plan) {
-        Some(place) => Some(Breach::Forbidden(place)),
-        None => None,
-    }
+    Ok(cost_of(rows, plan))
 }
 
 /// Judges a plan, a byte for each decision: its value, or 0 if it is idle. Refuses more than 64 decisions, then a size
@@ -114,8 +108,5 @@ pub fn judge<M: Measure>(
         return Err(Refusal::ShortPlan);
     }
     let plan = &plan[0..decisions.len()];
-    match first_breach(decisions, rows, plan) {
-        Some(breach) => Ok(Verdict::Broken(breach)),
-        None => Ok(Verdict::Lawful(cost_of(rows, plan))),
-    }
+    Ok(verdict(decisions, rows, plan))
 }

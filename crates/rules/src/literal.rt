@@ -3,7 +3,7 @@ ghost use Rattle.std.specs.Prelude.{◌≡◌};
 ghost use Rattle.rules.specs.Conditions.{has, from_bytes};
 
 /// A pair, written `2=3`: a decision, counted from 0, and one of its values, counted from 1.
-#[derive(Clone, Copy)]
+#[derive(Clone, Copy, Debug, Default, PartialEq, Eq)]
 pub struct Literal {
     pub decision: u8,
     pub value: u8,

@@ -3,7 +3,7 @@ ghost use Rattle.std.specs.Prelude.{◌≡◌};
 ghost use Rattle.rules.specs.Refusals.{number_of, layer_of};
 
 /// A refusal, with its number.
-#[derive(Clone, Copy, Debug)]
+#[derive(Clone, Copy, Debug, PartialEq, Eq)]
 pub enum Refusal {
     /// More than 64 decisions.
     TooManyDecisions = 1,
@@ -42,7 +42,7 @@ pub enum Refusal {
 }
 
 /// The part of the appliance that a refusal comes from.
-#[derive(Clone, Copy)]
+#[derive(Clone, Copy, Debug, PartialEq, Eq)]
 pub enum Layer {
     Text,
     Rule,
@@ -61,9 +61,14 @@ impl Refusal {
     pub fn layer(self) -> Layer
         ensures { result ≡ layer_of (number_of self) }
     {
-        match self.number() {
-            3 | 6 | 7 => Layer::Rule,
-            12..=17 => Layer::Text,
+        match self {
+            Refusal::PairCount | Refusal::NotAscending | Refusal::CentsTooLarge => Layer::Rule,
+            Refusal::UnknownLine
+            | Refusal::MalformedField
+            | Refusal::FieldCount
+            | Refusal::DecisionAfterRule
+            | Refusal::BookTooLarge
+            | Refusal::ShortText => Layer::Text,
             _ => Layer::Planner,
         }
     }

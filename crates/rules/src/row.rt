@@ -7,9 +7,10 @@ use crate::Literal;
 use measure::Price;
 
 /// The kinds of rule.
-#[derive(Clone, Copy)]
+#[derive(Clone, Copy, Debug, Default, PartialEq, Eq)]
 pub enum Kind {
     /// Its condition must not be met.
+    #[default]
     Forbid,
     /// Its target is active when its condition is met.
     Activate,
@@ -18,7 +19,7 @@ pub enum Kind {
 }
 
 /// A plain copy of a rule. Its condition is its first `count` pairs.
-#[derive(Clone, Copy)]
+#[derive(Clone, Copy, Debug, Default, PartialEq, Eq)]
 pub struct Row {
     pub kind: Kind,
     pub count: u8,
@@ -32,21 +33,21 @@ impl Kind {
     pub fn is_forbid(self) -> bool
         ensures { result ≡ is_forbid self }
     {
-        matches!(self, Kind::Forbid)
+        self == Kind::Forbid
     }
 
     /// Whether this is the kind of activate rules.
     pub fn is_activate(self) -> bool
         ensures { result ≡ is_activate self }
     {
-        matches!(self, Kind::Activate)
+        self == Kind::Activate
     }
 
     /// Whether this is the kind of price rules.
     pub fn is_price(self) -> bool
         ensures { result ≡ is_price self }
     {
-        matches!(self, Kind::Price)
+        self == Kind::Price
     }
 }
 

@@ -27,13 +27,7 @@ impl Rule {
             value: 1,
         };
         Rule {
-            row: Row {
-                kind: Kind::Forbid,
-                count: 1,
-                pairs: [first, compose::BLANK, compose::BLANK, compose::BLANK],
-                target: 0,
-                price: compose::FREE,
-            },
+            row: compose::row_of(Kind::Forbid, &[first], 0, Price::default()),
         }
     }
 

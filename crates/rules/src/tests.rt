@@ -2,8 +2,6 @@
 use crate::*;
 use measure::Price;
 
-const FREE: Price = Price { tier: 0, cents: 0 };
-
 const PAIRS: [Literal; 5] = [
     Literal {
         decision: 0,
@@ -27,29 +25,50 @@ const PAIRS: [Literal; 5] = [
     },
 ];
 
-/// What composing a new rule of these parts answers: 0, or the refusal's number.
-fn composing(kind: Kind, pairs: &[Literal], price: Price) -> u8 {
-    let mut rule = Rule::new();
-    match rule.compose(kind, pairs, 0, price) {
-        Ok(()) => 0,
-        Err(refusal) => refusal.number(),
-    }
+/// What composing a new rule of these parts answers.
+fn composing(kind: Kind, pairs: &[Literal], price: Price) -> Result<(), Refusal> {
+    Rule::new().compose(kind, pairs, 0, price)
+}
+
+#[test]
+fn refusals_have_their_numbers(rt: HostRuntime) {
+    assert_eq!(rt; Refusal::PairCount.number(), 3);
+    assert_eq!(rt; Refusal::NotAscending.number(), 6);
+    assert_eq!(rt; Refusal::CentsTooLarge.number(), 7);
 }
 
 #[test]
 fn one_to_four_pairs_make_a_rule(rt: HostRuntime) {
-    assert_eq!(rt; composing(Kind::Forbid, &PAIRS[0..0], FREE), 3);
-    assert_eq!(rt; composing(Kind::Forbid, &PAIRS[0..1], FREE), 0);
-    assert_eq!(rt; composing(Kind::Forbid, &PAIRS[0..4], FREE), 0);
-    assert_eq!(rt; composing(Kind::Forbid, &PAIRS[0..5], FREE), 3);
+    assert_eq!(rt;
+        composing(Kind::Forbid, &PAIRS[0..0], Price::default()),
+        Err(Refusal::PairCount)
+    );
+    assert_eq!(rt;
+        composing(Kind::Forbid, &PAIRS[0..1], Price::default()),
+        Ok(())
+    );
+    assert_eq!(rt;
+        composing(Kind::Forbid, &PAIRS[0..4], Price::default()),
+        Ok(())
+    );
+    assert_eq!(rt;
+        composing(Kind::Forbid, &PAIRS[0..5], Price::default()),
+        Err(Refusal::PairCount)
+    );
 }
 
 #[test]
 fn decisions_must_strictly_ascend(rt: HostRuntime) {
     let equal = [PAIRS[1], PAIRS[1]];
     let falling = [PAIRS[1], PAIRS[0]];
-    assert_eq!(rt; composing(Kind::Forbid, &equal, FREE), 6);
-    assert_eq!(rt; composing(Kind::Forbid, &falling, FREE), 6);
+    assert_eq!(rt;
+        composing(Kind::Forbid, &equal, Price::default()),
+        Err(Refusal::NotAscending)
+    );
+    assert_eq!(rt;
+        composing(Kind::Forbid, &falling, Price::default()),
+        Err(Refusal::NotAscending)
+    );
 }
 
 #[test]
@@ -62,18 +81,27 @@ fn a_price_rule_states_at_most_a_thousand_million_cents(rt: HostRuntime) {
         tier: 0,
         cents: 1_000_000_001,
     };
-    assert_eq!(rt; composing(Kind::Price, &PAIRS[0..1], most), 0);
-    assert_eq!(rt; composing(Kind::Price, &PAIRS[0..1], more), 7);
-    assert_eq!(rt; composing(Kind::Forbid, &PAIRS[0..1], more), 0);
+    assert_eq!(rt; composing(Kind::Price, &PAIRS[0..1], most), Ok(()));
+    assert_eq!(rt;
+        composing(Kind::Price, &PAIRS[0..1], more),
+        Err(Refusal::CentsTooLarge)
+    );
+    assert_eq!(rt; composing(Kind::Forbid, &PAIRS[0..1], more), Ok(()));
 }
 
 #[test]
 fn a_refusal_leaves_the_old_rule(rt: HostRuntime) {
     let mut rule = Rule::new();
-    assert!(rt; rule.compose(Kind::Activate, &PAIRS[1..3], 7, FREE).is_ok());
-    assert!(rt; rule.compose(Kind::Forbid, &PAIRS[0..0], 0, FREE).is_err());
+    assert!(rt;
+        rule.compose(Kind::Activate, &PAIRS[1..3], 7, Price::default())
+            .is_ok()
+    );
+    assert!(rt;
+        rule.compose(Kind::Forbid, &PAIRS[0..0], 0, Price::default())
+            .is_err()
+    );
     let row = rule.row();
-    assert!(rt; row.kind.is_activate());
+    assert_eq!(rt; row.kind, Kind::Activate);
     assert_eq!(rt; row.count, 2);
     assert_eq!(rt; row.target, 7);
     assert_eq!(rt; row.condition()[0].decision, 1);

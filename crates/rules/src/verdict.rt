@@ -1,7 +1,7 @@
 //! What the judging of a plan answers.
 
 /// A law that a plan breaks.
-#[derive(Clone, Copy)]
+#[derive(Clone, Copy, Debug, PartialEq, Eq)]
 pub enum Breach {
     /// This decision is chosen and not active.
     NotActive(u8),
@@ -14,8 +14,4 @@ pub enum Breach {
 }
 
 /// A plan is lawful, at a cost, or breaks a law.
-#[derive(Clone, Copy)]
-pub enum Verdict<M> {
-    Lawful(M),
-    Broken(Breach),
-}
+pub type Verdict<M> = Result<M, Breach>;

@@ -1,12 +1,13 @@
 -- The bits of a number, at any width: what the operations on numbers do to each bit.
-use Rattle.std.proofs.Common.{◌≡◌, ℕ, zero, suc, ◌+◌, ◌-◌, ◌*◌, ◌/◌, ◌%◌, ◌^◌, ◌<◌, Bool, true, false, cond, not, ◌&&◌, ◌||◌, eqb, ◌⊎◌, sym, refl, ap, ◌∙◌, ap₂, inl, inr, le_of_suc-le-suc, not-suc-le-zero, lt_of_le_of_lt, mod-lt, mod-eq_of_lt, add_comm, pow-suc, one-add, arith, pow_pos, shr-shr}
+use Rattle.std.proofs.Common.{◌≡◌, ℕ, zero, suc, ◌+◌, ◌-◌, ◌*◌, ◌/◌, ◌%◌, ◌^◌, ◌<◌, Bool, ltb, true, false, cond, not, ◌&&◌, ◌||◌, eqb, ◌⊎◌, sym, refl, ap, ◌∙◌, ap₂, inl, inr, le_of_suc-le-suc, not-suc-le-zero, lt_of_le_of_lt, mod-lt, mod-eq_of_lt, add_comm, pow-suc, one-add, arith, pow_pos, shr-shr}
 use mathlib.Core.Path.{fun_ext}
 use native.Mathlib.Nat.{mod-one}
 use lib.Bits.{bit_and, bit_or, and_le_l, and_mask, and_shr, or_shr, and_mod, or_mod}
 use lib.Count.{ones, ones_in, count_trailing_zeros, under, ones_cat, ones-ones}
 use lib.Dec.{eqb-suc-suc, eqb-suc-zero, eqb-zero-suc}
 use lib.Pow.{pow-lt, mod-pow-add}
-use Rattle.std.proofs.lemmas.Bool.{eqb-true, ne_eqb, not-false, not_from_false, or_right}
+use Rattle.std.proofs.lemmas.Bool.{cases_lt, lt-ltb, le-ltb, eqb-true, ne_eqb, not-false, not_from_false, or_right}
+use Rattle.std.proofs.lemmas.Nat.Bits.{bit_at_ones, bit_at_ones_above}
 use Rattle.sets.specs.Members.{bit}
 use Rattle.sets.specs.Searches.{some_below, count_outside}
 use Rattle.sets.proofs.BoolLaws.{or_failed}
@@ -111,6 +112,15 @@ pub bit_remove : (w n d k : ℕ) → d < w → k < w → bit (bit_and n (2 ^ w -
 bit_remove w n d k hd hk =
     bit_and_lem n (2 ^ w - 1 - 2 ^ d) k
     ∙ ap (λ (b : Bool). bit n k && b) (bit_complement w (2 ^ d) k (pow-lt hd) hk ∙ ap not (bit_single d k))
+
+-- a bit of a number whose first n bits are set
+pub bit_ones : (n k : ℕ) → bit (2 ^ n - 1) k ≡ ltb k n
+unfolding bit
+bit_ones n k =
+    elim (cases_lt k n) [
+      | inl h ↦ ap (λ (x : ℕ). eqb x 1) (bit_at_ones n k h) ∙ sym (lt-ltb k n h)
+      | inr h ↦ ap (λ (x : ℕ). eqb x 1) (bit_at_ones_above n k h) ∙ sym (le-ltb k n h)
+    ]
 
 -- one more low digit
 low_more : (n m : ℕ) → n % 2 ^ suc m ≡ n / 2 ^ m % 2 * 2 ^ m + n % 2 ^ m

@@ -7,7 +7,7 @@ use Rattle.std.proofs.lemmas.Bool.{cases_lt, lt-ltb, le-ltb, ne_eqb, and_left, o
 use Rattle.sets.specs.declared.decision_set.DecisionSet.{DecisionSet}
 use Rattle.sets.specs.Members.{bit, members}
 use Rattle.sets.specs.Searches.{some_below}
-use Rattle.sets.proofs.BitLaws.{bit_or_lem, bit_of_zero, bit_single, bit_remove, some_bit, common_bit}
+use Rattle.sets.proofs.BitLaws.{bit_or_lem, bit_of_zero, bit_single, bit_ones, bit_remove, some_bit, common_bit}
 use Rattle.sets.proofs.BoolLaws.{and_held, not_twice}
 use Rattle.sets.proofs.SearchLaws.{some_below_same}
 
@@ -29,6 +29,10 @@ members_are s t within above =
 -- the set with no bit
 pub members_empty : members (record { bits = 0 }) ≡ (λ x. false)
 members_empty = members_are (record { bits = 0 }) (λ x. false) (λ x h. bit_of_zero x) (λ x h. refl)
+
+-- the set with the first bits
+pub members_first : (n : ℕ) → n ≤ 64 → members (record { bits = 2 ^ n - 1 }) ≡ (λ x. ltb x n)
+members_first n most = members_are (record { bits = 2 ^ n - 1 }) (λ x. ltb x n) (λ x h. bit_ones n x) (λ x h. le-ltb x n (omega arith))
 
 -- the set with the bits of either of two
 pub members_union : (s o : DecisionSet) → members (record { bits = bit_or s.bits o.bits }) ≡ (λ x. members s x || members o x)

@@ -5,11 +5,11 @@ use lib.Bits.{bit_and, bit_or, and_mask}
 use lib.Count.{ones, count_trailing_zeros, trailing_le}
 use lib.Dec.{eqb-suc-suc}
 use Rattle.std.proofs.lemmas.Nat.{one_shl}
-use Rattle.std.proofs.lemmas.Bool.{cases_lt, le-leb, lt-leb, ne_eqb, and_left, and_right, and_from, or_from, not-true, not-false}
+use Rattle.std.proofs.lemmas.Bool.{cases_lt, cases_eq, not_from_false, le-leb, lt-leb, ne_eqb, and_left, and_right, and_from, or_from, not-true, not-false}
 use Rattle.sets.specs.declared.value_set.ValueSet.{ValueSet}
 use Rattle.sets.specs.Members.{bit, values}
 use Rattle.sets.specs.Searches.{smallest_outside, count_outside}
-use Rattle.sets.proofs.BitLaws.{bit_test, bit_or_lem, bit_of_zero, bit_single, bit_complement, bit_before_first, bit_first, ones_outside}
+use Rattle.sets.proofs.BitLaws.{bit_test, bit_or_lem, bit_of_zero, bit_single, bit_complement, bit_remove, bit_before_first, bit_first, ones_outside}
 use Rattle.sets.proofs.BoolLaws.{and_held}
 use Rattle.sets.proofs.SearchLaws.{none_outside, first_outside}
 
@@ -66,6 +66,23 @@ values_with s v low high =
     (and_left (eqb 0 v) (leb 1 v && leb v 16) (ne_eqb 0 v (λ (e : 0 ≡ v). omega arith))))
     (λ x h. or_from (values s x) (eqb x v && (leb 1 v && leb v 16)) (no_value_above s x h)
     (and_left (eqb x v) (leb 1 v && leb v 16) (ne_eqb x v (λ (e : x ≡ v). omega arith))))
+
+-- the set with one bit removed
+pub values_without : (s : ValueSet) (v : ℕ) → 1 ≤ v → v ≤ 16
+    → values (record { bits = bit_and s.bits (2 ^ 16 - 1 - 1 * 2 ^ (v - 1) % 2 ^ 16) }) ≡ (λ x. values s x && not (eqb x v))
+values_without s v low high =
+    values_are (record { bits = bit_and s.bits (2 ^ 16 - 1 - 1 * 2 ^ (v - 1) % 2 ^ 16) }) (λ x. values s x && not (eqb x v))
+    (λ k h. ap (λ (n : ℕ). bit (bit_and s.bits (2 ^ 16 - 1 - n)) k) (one_shl (v - 1) 16 (omega arith)) ∙ bit_remove 16 s.bits (v - 1) k (omega arith) h
+    ∙ ap₂ (λ (p q : Bool). p && not q) (sym (value_bit s k h)) (own_bit k v low))
+    (and_left (values s 0) (not (eqb 0 v)) (no_value_zero s))
+    (λ x h. and_left (values s x) (not (eqb x v)) (no_value_above s x h))
+
+-- to remove what no set has changes nothing
+pub values_without_none : (s : ValueSet) (v : ℕ) → values s v ≡ false → values s ≡ (λ x. values s x && not (eqb x v))
+values_without_none s v none = fun_ext (λ x. elim (cases_eq x v) [
+  | inl e ↦ ap (values s) e ∙ none ∙ sym (and_left (values s x) (not (eqb x v)) (ap (values s) e ∙ none))
+  | inr ne ↦ sym (and_held (values s x) (not (eqb x v)) (not_from_false (eqb x v) (ne_eqb x v ne)))
+])
 
 -- a bit of a set's complement is set where the value is not in the set
 pub outside_bit : (s : ValueSet) (k : ℕ) → s.bits < 2 ^ 16 → k < 16 → bit (2 ^ 16 - 1 - s.bits) k ≡ not (values s (suc k))

@@ -1,10 +1,12 @@
 //! Sets of decisions.
-ghost use Rattle.std.specs.Prelude.{◌≡◌, false, not, ◌&&◌, ◌||◌, ◌==◌, nat_lt};
+ghost use Rattle.std.specs.Prelude.{◌≡◌, min, false, not, ◌&&◌, ◌||◌, ◌==◌, nat_lt};
 ghost use Rattle.sets.specs.Members.{members};
 ghost use Rattle.sets.specs.Searches.{some_below};
 
+use crate::first_bits::first_bits;
+
 /// A set of the decisions 0 to 63: decision `d` is in it where bit `d` is set.
-#[derive(Clone, Copy)]
+#[derive(Clone, Copy, Debug, Default, PartialEq, Eq)]
 pub struct DecisionSet {
     pub bits: u64,
 }
@@ -15,6 +17,15 @@ impl DecisionSet {
         ensures { members result ≡ (λ x. false) }
     {
         DecisionSet { bits: 0 }
+    }
+
+    /// The set of the first decisions, so many, of 64 at most.
+    pub fn first(count: u8) -> DecisionSet
+        ensures { members result ≡ (λ x. nat_lt x (min count 64)) }
+    {
+        DecisionSet {
+            bits: first_bits(count),
+        }
     }
 
     /// Whether a decision is in the set.

@@ -1,7 +1,9 @@
 //! Small sets of decisions and of values, a bit for each.
+//! Two types: one generic one, that counts from 0 or from 1 in a word of either size, shares three methods and is longer.
 #![tactic(auto)]
 
 mod decision_set;
+mod first_bits;
 mod value_set;
 
 pub use decision_set::DecisionSet;

@@ -1,10 +1,12 @@
 //! Sets of the values of one decision.
-ghost use Rattle.std.specs.Prelude.{◌≡◌, ◌-◌, ◌^◌, min, false, ◌&&◌, ◌||◌, ◌==◌, nat_le};
+ghost use Rattle.std.specs.Prelude.{◌≡◌, min, false, not, ◌&&◌, ◌||◌, ◌==◌, nat_le};
 ghost use Rattle.sets.specs.Members.{values};
 ghost use Rattle.sets.specs.Searches.{smallest_outside, count_outside};
 
+use crate::first_bits::first_bits;
+
 /// A set of the values 1 to 16: value `v` is in it where bit `v - 1` is set.
-#[derive(Clone, Copy)]
+#[derive(Clone, Copy, Debug, Default, PartialEq, Eq)]
 pub struct ValueSet {
     pub bits: u16,
 }
@@ -37,6 +39,19 @@ impl ValueSet {
         }
     }
 
+    /// The set without a value.
+    pub fn without(self, v: u8) -> ValueSet
+        ensures { values result ≡ (λ x. values self x && not (x == v)) }
+    {
+        if 1 <= v && v <= 16 {
+            ValueSet {
+                bits: self.bits & !(1u16 << (v - 1)),
+            }
+        } else {
+            self
+        }
+    }
+
     /// The smallest of the values 1 to `size`, of 16 at most, that is not in the set.
     pub fn smallest_outside(self, size: u8) -> Option<u8>
         ensures { result ≡ smallest_outside (values self) (min size 16) }
@@ -54,17 +69,6 @@ impl ValueSet {
     pub fn count_outside(self, size: u8) -> u8
         ensures { result ≡ count_outside (values self) (min size 16) }
     {
-        (!self.bits & first_bits(size)).count_ones() as u8
-    }
-}
-
-/// The number whose first `count` bits, of 16 at most, are set, and no other.
-fn first_bits(count: u8) -> u16
-    ensures { result ≡ 2 ^ min count 16 - 1 }
-{
-    if count < 16 {
-        (1u16 << count) - 1
-    } else {
-        u16::MAX
+        (!self.bits & first_bits(size.min(16)) as u16).count_ones() as u8
     }
 }
