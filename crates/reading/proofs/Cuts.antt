@@ -71,6 +71,23 @@ left_past b xs p h = cond-false (leb p (length xs)) _ [] (lt-leb p (length xs) h
 pub left_within : (b : ℕ) (xs : List ℕ) (p : ℕ) → p ≤ length xs → left_at b xs p ≡ pieces b (drop p xs)
 left_within b xs p h = cond-true (leb p (length xs)) _ [] (le-leb p (length xs) h)
 
+-- no more pieces than bytes, and one
+few_pieces : (b : ℕ) (xs : List ℕ) → length (pieces b xs) ≤ length xs + 1
+unfolding pieces
+few_pieces b [] = omega arith
+few_pieces b (x ∷ xs) =
+    elim (eqb x b) as (λ t. length (cond t ([] ∷ pieces b xs) (longer x (pieces b xs))) ≤ suc (length xs) + 1)
+    [ true ↦ omega (arith, few_pieces b xs) | false ↦ omega (arith, long (pieces b xs), few_pieces b xs) ]
+  where
+    long : (ps : List (List ℕ)) → length (longer x ps) ≤ length ps + 1
+    long [] = omega arith
+    long (p ∷ ps) = omega arith
+
+pub few_left : (b : ℕ) (xs : List ℕ) (p : ℕ) → length (left_at b xs p) ≤ length xs + 1
+few_left b xs p =
+    ⊎_elim (λ (past : length xs < p). omega (arith, ap length (left_past b xs p past)))
+    (λ (within : p ≤ length xs). omega (arith, ap length (left_within b xs p within), few_pieces b (drop p xs), length-drop p xs)) (cases_lt (length xs) p)
+
 -- there is always a piece
 pub pieces_some : (b : ℕ) (xs : List ℕ) → is_nil (pieces b xs) ≡ false
 unfolding pieces

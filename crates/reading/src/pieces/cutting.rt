@@ -1,5 +1,5 @@
 //! Cutting a text at a byte.
-ghost use Rattle.std.specs.Prelude.{◌≡◌, ◌+◌, ◌≤◌, length, ◌==◌, option_map};
+ghost use Rattle.std.specs.Prelude.{◌≡◌, ◌+◌, ◌^◌, ◌<◌, ◌≤◌, length, ◌==◌, option_map};
 ghost use Rattle.std.specs.Iterator.{item_count};
 ghost use Rattle.std.specs.List.{position};
 ghost use Rattle.reading.specs.Cursors.{Taken, column, left, left_at};
@@ -28,6 +28,7 @@ impl<'a> Pieces<'a> {
         requires { place ≤ length text.now + 1 }
         ensures left { left result ≡ left_at at text.now place }
         ensures column { column result ≡ place + 1 }
+        ensures few { length (left result) < 2 ^ 64 }
     {
         Pieces { text, at, place }
     }
