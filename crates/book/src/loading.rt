@@ -23,23 +23,16 @@ fn load_line<M: Measure>(planner: &mut Planner<M>, line: &Line, began: bool) -> 
     ensures { on_ok (λ t. (t, account_of planner.new)) result ≡ line_step M.meaning began (account_of planner.old) (line_of line.now) }
 {
     let statement = read_line(line, began)?;
-    match carry_out(planner, &statement) {
-        Ok(()) => Ok(has_begun(began, &statement)),
-        Err(refusal) => Err(Fault {
-            refusal,
-            line: line.number,
-            column: 1,
-        }),
-    }
+    carry_out(planner, &statement).map_err(|refusal| Fault::at_line(refusal, line.number))?;
+    Ok(has_begun(began, &statement))
 }
 
 /// Reads the lines of a text and carries them out, up to the first fault.
 fn load_lines<M: Measure>(planner: &mut Planner<M>, text: &[u8]) -> Result<(), Fault>
     ensures { on_ok (λ u. account_of planner.new) result ≡ load_lines M.meaning false (account_of planner.old) (lines_of text.now) }
 {
-    let mut lines = Lines::of(text);
     let mut began = false;
-    while let Some(line) = lines.next() {
+    for line in Lines::of(text) {
         began = load_line(planner, &line, began)?;
     }
     Ok(())
@@ -64,11 +57,7 @@ pub fn load<M: Measure>(planner: &mut Planner<M>, text: &[u8]) -> Result<(), Fau
 {
     clear(planner);
     if text.len() > MOST_BYTES {
-        return Err(Fault {
-            refusal: Refusal::BookTooLarge,
-            line: 1,
-            column: 1,
-        });
+        return Err(Fault::at_line(Refusal::BookTooLarge, 1));
     }
     let outcome = load_lines(planner, text);
     if outcome.is_err() {

@@ -2,7 +2,7 @@
 //! bytes so many times.
 ghost use Rattle.std.specs.Prelude.{◌≤◌, length};
 
-use reading::{bytes_before, number};
+use reading::{number, split_once};
 
 /// The largest number in a frame's first line.
 const MOST: u32 = 131_072;
@@ -17,26 +17,12 @@ pub struct Frame<'a> {
 
 /// The first frame of an input, if there is one.
 pub fn next_frame<'a>(input: &'a [u8]) -> Option<Frame<'a>> {
-    let end = bytes_before(b'\n', input);
-    if end >= input.len() {
-        return None;
-    }
-    let header = &input[0..end];
-    let body = &input[end + 1..];
-    let cut = bytes_before(b' ', header);
-    if cut >= header.len() {
-        return None;
-    }
-    let length = number(&header[0..cut], MOST)? as usize;
-    let times = number(&header[cut + 1..], MOST)?;
-    if length > body.len() {
-        return None;
-    }
-    Some(Frame {
-        part: &body[0..length],
-        times,
-        rest: &body[length..],
-    })
+    let (header, body) = split_once(input, b'\n')?;
+    let (length, times) = split_once(header, b' ')?;
+    let length = usize::try_from(number(length, MOST)?).ok()?;
+    let times = number(times, MOST)?;
+    let (part, rest) = body.split_at_checked(length)?;
+    Some(Frame { part, times, rest })
 }
 
 /// Puts a part so many times into a book, as long as there is room, and answers the book's length.

@@ -1,25 +1,50 @@
 -- Where a text is cut at a byte.
-use Rattle.std.proofs.Common.{◌≡◌, ℕ, suc, ◌+◌, ◌-◌, ◌<◌, ◌≤◌, true, false, cond, eqb, ltb, leb, List, [], ◌∷◌, length, get_or, take, drop, sym, refl, ap, ◌∙◌, subst, ⊎_elim, add-sub_cancel, arith}
-use native.Mathlib.Nat.{sub-zero}
-use Rattle.std.proofs.lemmas.List.{at_drop_more, at_drop_all, length-drop, length-take-le, drop-drop, take_all, take_rest}
-use Rattle.std.proofs.lemmas.Bool.{cond-true, cond-false, cases_lt, eq-eqb, le-leb, le-ltb, lt-leb, lt-ltb, ne_eqb}
+use Rattle.std.proofs.Common.{◌≡◌, ℕ, suc, ◌+◌, ◌-◌, ◌<◌, ◌≤◌, true, false, cond, eqb, ltb, leb, Bool, List, [], ◌∷◌, length, take, drop, Some, None, Option, Bor, MatchOption, option_map, sym, refl, ap, ◌∙◌, subst, ⊎_elim, add-sub_cancel, arith}
+use Rattle.std.specs.List.{position, position_or_len}
+use Rattle.std.proofs.lemmas.List.Recursion.{is_position_or_len}
+use Rattle.std.proofs.lemmas.List.{length-drop, length-take-le, drop-drop, take_all}
+use Rattle.std.proofs.lemmas.Bool.{cond-true, cond-false, cases_lt, le-leb, le-ltb, lt-leb, lt-ltb}
 use Rattle.reading.specs.Cursors.{left_at}
-use Rattle.reading.specs.Pieces.{pieces, longer, before, is_nil}
+use Rattle.reading.specs.Pieces.{pieces, longer, before, halves, is_nil}
 
--- one byte that is no b, one that is, and no byte more
-pub before_more : (b : ℕ) (xs : List ℕ) (i : ℕ) → i < length xs → (get_or xs i 0 ≡ b → ⊥) → before b (drop i xs) ≡ suc (before b (drop (i + 1) xs))
-before_more b xs i h ne = at_drop_more (before b) xs i 0 h ∙ cond-false (eqb (get_or xs i 0) b) 0 _ (ne_eqb (get_or xs i 0) b ne)
+-- the bytes before the first b, in the library's words
+place_is : (b : ℕ) (xs : List ℕ) → before b xs ≡ position_or_len (λ x. eqb x b) xs
+place_is b = is_position_or_len (before b) (λ x. eqb x b) refl (λ x xs. ap (cond (eqb x b) 0) (omega arith))
 
-pub before_found : (b : ℕ) (xs : List ℕ) (i : ℕ) → i < length xs → get_or xs i 0 ≡ b → before b (drop i xs) ≡ 0
-before_found b xs i h e = at_drop_more (before b) xs i 0 h ∙ cond-true (eqb (get_or xs i 0) b) 0 _ (eq-eqb (get_or xs i 0) b e)
+-- what stands on both sides of a place, if there is one
+abbrev around : List ℕ → Option ℕ → Option (List ℕ × List ℕ)
+around xs None = None
+around xs (Some n) = Some (take n xs, drop (n + 1) xs)
 
-pub before_all : (b : ℕ) (xs : List ℕ) (i : ℕ) → length xs ≤ i → before b (drop i xs) ≡ 0
-before_all b xs i h = at_drop_all (before b) xs i h
+pub halves_are : (b : ℕ) (xs : List ℕ) (o : Option ℕ) → o ≡ position (λ x. eqb x b) xs → around xs o ≡ halves b xs
+halves_are b xs o e =
+    ap (around xs) e ∙ parted (ltb (position_or_len (λ x. eqb x b) xs) (length xs)) _
+    ∙ ap (λ (k : ℕ). cond (ltb k (length xs)) (Some (take k xs, drop (k + 1) xs)) None) (sym (place_is b xs))
+  where
+    parted : (t : Bool) (k : ℕ) → around xs (cond t (Some k) None) ≡ cond t (Some (take k xs, drop (k + 1) xs)) None
+    parted true k = refl
+    parted false k = refl
 
-pub before_within : (b : ℕ) (xs : List ℕ) → before b xs ≤ length xs
+before_within : (b : ℕ) (xs : List ℕ) → before b xs ≤ length xs
 before_within b [] = omega arith
 before_within b (x ∷ xs) =
     elim (eqb x b) as (λ t. cond t 0 (suc (before b xs)) ≤ suc (length xs)) [ true ↦ omega arith | false ↦ omega (arith, before_within b xs) ]
+
+-- the first half, or the whole text if it lacks the byte
+abbrev first_or : List ℕ → Option (List ℕ × List ℕ) → List ℕ
+first_or whole None = whole
+first_or whole (Some p) = p.0
+
+pub first_half : (b : ℕ) (whole first : List ℕ) (o : Option (Bor (List ℕ) × Bor (List ℕ))) → option_map (λ p. (p.0.now, p.1.now)) o ≡ halves b whole → MatchOption o (first ≡ whole) (λ p. first ≡ p.0.now) → first ≡ take (before b whole) whole
+first_half b whole first o e h =
+    chosen o h ∙ ap (first_or whole) e
+    ∙ ⊎_elim (λ (has : before b whole < length whole). ap (first_or whole) (cond-true _ _ None (lt-ltb (before b whole) (length whole) has)))
+    (λ (lacks : length whole ≤ before b whole). ap (first_or whole) (cond-false _ _ None (le-ltb (before b whole) (length whole) lacks)) ∙ sym (take_all (before b whole) whole lacks))
+    (cases_lt (before b whole) (length whole))
+  where
+    chosen : (o : Option (Bor (List ℕ) × Bor (List ℕ))) → MatchOption o (first ≡ whole) (λ p. first ≡ p.0.now) → first ≡ first_or whole (option_map {U = List ℕ × List ℕ} (λ p. (p.0.now, p.1.now)) o)
+    chosen None h = h
+    chosen (Some p) h = h
 
 -- the first piece, and what is cut after it
 pub cut_first : (b : ℕ) (xs : List ℕ) → before b xs < length xs → pieces b xs ≡ take (before b xs) xs ∷ pieces b (drop (suc (before b xs)) xs)
@@ -45,6 +70,23 @@ left_past b xs p h = cond-false (leb p (length xs)) _ [] (lt-leb p (length xs) h
 
 pub left_within : (b : ℕ) (xs : List ℕ) (p : ℕ) → p ≤ length xs → left_at b xs p ≡ pieces b (drop p xs)
 left_within b xs p h = cond-true (leb p (length xs)) _ [] (le-leb p (length xs) h)
+
+-- no more pieces than bytes, and one
+few_pieces : (b : ℕ) (xs : List ℕ) → length (pieces b xs) ≤ length xs + 1
+unfolding pieces
+few_pieces b [] = omega arith
+few_pieces b (x ∷ xs) =
+    elim (eqb x b) as (λ t. length (cond t ([] ∷ pieces b xs) (longer x (pieces b xs))) ≤ suc (length xs) + 1)
+    [ true ↦ omega (arith, few_pieces b xs) | false ↦ omega (arith, long (pieces b xs), few_pieces b xs) ]
+  where
+    long : (ps : List (List ℕ)) → length (longer x ps) ≤ length ps + 1
+    long [] = omega arith
+    long (p ∷ ps) = omega arith
+
+pub few_left : (b : ℕ) (xs : List ℕ) (p : ℕ) → length (left_at b xs p) ≤ length xs + 1
+few_left b xs p =
+    ⊎_elim (λ (past : length xs < p). omega (arith, ap length (left_past b xs p past)))
+    (λ (within : p ≤ length xs). omega (arith, ap length (left_within b xs p within), few_pieces b (drop p xs), length-drop p xs)) (cases_lt (length xs) p)
 
 -- there is always a piece
 pub pieces_some : (b : ℕ) (xs : List ℕ) → is_nil (pieces b xs) ≡ false
@@ -80,14 +122,19 @@ take_left b xs p n h e =
     ∙ ap (λ (ps : List (List ℕ)). take n (drop p xs) ∷ ps) (sym (left_past b xs (p + n + 1) (omega (arith, length-drop p xs)))))
     (cases_lt n (length (drop p xs)))
 
--- a part of the rest of a text, as the checker writes it
-pub part_is : (xs : List ℕ) (p n : ℕ) → take (n - 0) (take (length xs - p) (drop p xs)) ≡ take n (drop p xs)
-part_is xs p n = ap (λ (k : ℕ). take k (take (length xs - p) (drop p xs))) (sub-zero n) ∙ ap (take n) (take_rest xs p)
+-- the same of the bytes themselves, and where they stand in the text
+module _ (b : ℕ) (xs : List ℕ) (p : ℕ) (whole first : List ℕ) (in_text : p ≤ length xs) (rest : whole ≡ drop p xs) (cut : first ≡ take (before b whole) whole) where
+  is_part : first ≡ take (before b (drop p xs)) (drop p xs)
+  is_part = cut ∙ ap (λ (ys : List ℕ). take (before b ys) ys) rest
 
-pub length_part : (b : ℕ) (xs : List ℕ) (p n : ℕ) → n ≡ before b (drop p xs) → length (take n (drop p xs)) ≡ n
-length_part b xs p n e = length-take-le n (drop p xs) (omega (arith, e, before_within b (drop p xs)))
+  long : length first ≡ before b (drop p xs)
+  long = ap length is_part ∙ length-take-le (before b (drop p xs)) (drop p xs) (before_within b (drop p xs))
 
--- a part, by its length and its column
-pub part_placed : (xs part : List ℕ) (p n : ℕ) → part ≡ take n (drop p xs) → length part ≡ n → part ≡ take (length part) (drop (p + 1 - 1) xs)
-part_placed xs part p n e l =
-    e ∙ ap (λ (k : ℕ). take k (drop p xs)) (sym l) ∙ ap (λ (k : ℕ). take (length part) (drop k xs)) (sym (add-sub_cancel p 1))
+  pub taken : left_at b xs p ≡ first ∷ left_at b xs (p + (length first + 1))
+  taken =
+      let e : p + length first + 1 ≡ p + (length first + 1) = omega arith in
+      take_left b xs p (length first) in_text long ∙ ap (λ (n : ℕ). take n (drop p xs) ∷ left_at b xs (p + length first + 1)) long
+      ∙ ap (λ (ys : List ℕ). ys ∷ left_at b xs (p + length first + 1)) (sym is_part) ∙ ap (λ (n : ℕ). first ∷ left_at b xs n) e
+
+  pub placed : first ≡ take (length first) (drop (p + 1 - 1) xs)
+  placed = is_part ∙ ap (λ (n : ℕ). take n (drop p xs)) (sym long) ∙ ap (λ (n : ℕ). take (length first) (drop n xs)) (sym (add-sub_cancel p 1))

@@ -6,4 +6,4 @@ mod numbers;
 mod pieces;
 
 pub use numbers::number;
-pub use pieces::{Piece, Pieces, bytes_before};
+pub use pieces::{Piece, Pieces, split_once};

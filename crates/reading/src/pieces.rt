@@ -3,7 +3,7 @@ ghost use Rattle.std.specs.Prelude.{◌+◌, ◌≤◌, length};
 
 mod cutting;
 
-pub use cutting::bytes_before;
+pub use cutting::split_once;
 
 /// A piece of a text, with the column of its first byte, counted from 1.
 #[derive(Clone, Copy)]

@@ -1,28 +1,40 @@
 -- The fields of a line counted one by one.
-use Rattle.std.proofs.Common.{◌≡◌, ℕ, suc, ◌+◌, true, false, not, ◌||◌, List, [], ◌∷◌, length, Some, Ok, Err, Option, Result, sym, ap, ◌∙◌, add-zero, arith}
+use Rattle.std.proofs.Common.{◌≡◌, ℕ, ◌+◌, Bool, true, false, not, ◌||◌, List, [], ◌∷◌, length, Some, None, Option, refl, sym, ap, ◌∙◌}
+use Rattle.std.specs.Bool.{then_some}
+use Rattle.std.specs.Option.{option_or}
 use Rattle.std.proofs.lemmas.Bool.{cond-false, cond-true}
+use Rattle.std.proofs.lemmas.Iterator.{YieldsList}
+use Rattle.std.proofs.lemmas.Iterator.Consumers.{YieldsList-from_shown}
+use Rattle.reading.specs.Cursors.{Taken, left}
 use Rattle.reading.specs.Pieces.{is_nil}
+use Rattle.reading.specs.declared.pieces.Pieces.{Pieces}
+use Rattle.rules.specs.Refusals.{or_else, when}
 use Rattle.statements.specs.Fields.{first_bad, takes_field}
-use Rattle.statements.specs.Statements.{unless}
 use Rattle.statements.specs.declared.line.LineKind.{LineKind}
 
--- the count of n fields and those to come, unless one of these is at fault
-abbrev pub count_from : LineKind → ℕ → ℕ → List (List ℕ) → Result ℕ ℕ
-count_from k n c fs = unless (first_bad k n c fs) (Ok (n + length fs))
+-- a cursor gives the pieces that are left
+pub pieces_yielded : (p : Pieces) → YieldsList Taken (λ x. x.bytes.now) p (left p)
+pieces_yielded = YieldsList-from_shown Taken (λ x. x.bytes.now) left (λ s t h. ap length h.0) (λ s x t h. h.first)
 
+-- a field at fault, one that is none, and no field more
 module _ (k : LineKind) (n c : ℕ) where
-  pub bad_field : (f : List ℕ) (fs gs : List (List ℕ)) → fs ≡ f ∷ gs → (is_nil f || not (takes_field k n)) ≡ true → count_from k n c fs ≡ Err c
+  pub bad_field : (f : List ℕ) (fs gs : List (List ℕ)) → fs ≡ f ∷ gs → (is_nil f || not (takes_field k n)) ≡ true → first_bad k n c fs ≡ Some c
   unfolding first_bad
-  bad_field f fs gs e bad =
-      ap (count_from k n c) e ∙ ap (λ (o : Option ℕ). unless o (Ok (n + suc (length gs)))) (cond-true (is_nil f || not (takes_field k n)) (Some c) _ bad)
+  bad_field f fs gs e bad = ap (first_bad k n c) e ∙ cond-true (is_nil f || not (takes_field k n)) (Some c) _ bad
 
-  pub good_field : (f : List ℕ) (fs gs : List (List ℕ)) (d : ℕ) → fs ≡ f ∷ gs → d ≡ c + length f + 1 → (is_nil f || not (takes_field k n)) ≡ false → count_from k n c fs ≡ count_from k (n + 1) d gs
+  pub good_field : (f : List ℕ) (fs gs : List (List ℕ)) (m d : ℕ) → fs ≡ f ∷ gs → m ≡ n + 1 → d ≡ c + length f + 1 → (is_nil f || not (takes_field k n)) ≡ false → first_bad k n c fs ≡ first_bad k m d gs
   unfolding first_bad
-  good_field f fs gs d e p good =
-      let q : n + suc (length gs) ≡ n + 1 + length gs = omega arith in
-      ap (count_from k n c) e ∙ ap (λ (o : Option ℕ). unless o (Ok (n + suc (length gs)))) (cond-false (is_nil f || not (takes_field k n)) (Some c) _ good)
-      ∙ ap (λ (m : ℕ). unless (first_bad k (n + 1) (c + length f + 1) gs) (Ok m)) q ∙ ap (λ (d : ℕ). count_from k (n + 1) d gs) (sym p)
+  good_field f fs gs m d e at p good =
+      ap (first_bad k n c) e ∙ cond-false (is_nil f || not (takes_field k n)) (Some c) _ good
+      ∙ ap (λ (d : ℕ). first_bad k (n + 1) d gs) (sym p) ∙ ap (λ (m : ℕ). first_bad k m d gs) (sym at)
 
-  pub no_field : (fs : List (List ℕ)) → fs ≡ [] → count_from k n c fs ≡ Ok n
+  pub no_field : (fs : List (List ℕ)) → fs ≡ [] → first_bad k n c fs ≡ None
   unfolding first_bad
-  no_field fs e = ap (count_from k n c) e ∙ ap Ok (add-zero n)
+  no_field fs e = ap (first_bad k n c) e
+
+-- the first answer, or the second where a test holds
+pub or_when : (o : Option ℕ) (t : Bool) (n : ℕ) → option_or o (then_some t n) ≡ or_else o (when t n)
+or_when None true n = refl
+or_when None false n = refl
+or_when (Some m) true n = refl
+or_when (Some m) false n = refl

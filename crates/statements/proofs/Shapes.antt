@@ -1,36 +1,36 @@
--- The kinds of lines and the forms of fields.
-use Rattle.std.proofs.Common.{◌≡◌, ℕ, ◌+◌, ◌-◌, ◌<◌, ◌≤◌, true, false, eqb, List, length, get_or, take, drop, None, Option, sym, ap, ◌∙◌, ⊎_elim, arith}
-use native.Mathlib.Nat.{sub-zero}
-use Rattle.std.specs.Str.{bytes_eq}
-use Rattle.std.proofs.lemmas.Slice.Eq.{bytes_eq-Decides}
-use Rattle.std.proofs.lemmas.List.{get_or_past, length-drop}
-use Rattle.std.proofs.lemmas.Bool.{cases_Bool, cond-false, ne_eqb}
+-- The forms of fields.
+use Rattle.std.proofs.Common.{◌≡◌, ℕ, ◌+◌, ◌<◌, ◌≤◌, List, [], length, take, drop, Some, None, Err, Option, sym, refl, ap, ◌∙◌, ⊎_elim, arith}
+use Rattle.std.proofs.lemmas.List.{length-drop}
+use Rattle.std.proofs.lemmas.Bool.{cases_lt, cond-false, cond-true, le-ltb, lt-ltb}
 use Rattle.reading.specs.Numbers.{number_up_to}
-use Rattle.reading.specs.Pieces.{before}
+use Rattle.reading.specs.Pieces.{before, halves}
 use Rattle.reading.proofs.Numerals.{none_if_empty}
+use Rattle.rules.specs.declared.literal.Literal.{Literal}
+use Rattle.rules.specs.declared.refusal.Refusal.TheVariants.{MalformedField}
 use Rattle.statements.specs.Forms.{both, pair_of}
-use Rattle.statements.specs.Lines.{kind_by, kind_of}
-
--- a line whose second byte is no space has no kind
-pub no_kind : (line : List ℕ) → (get_or line 1 0 ≡ 32 → ⊥) → None ≡ kind_of line
-no_kind line ne = sym (cond-false (eqb (get_or line 1 0) 32) (kind_by (get_or line 0 0)) None (ne_eqb (get_or line 1 0) 32 ne))
-
-pub short_no_kind : (line : List ℕ) → length line < 2 → None ≡ kind_of line
-short_no_kind line h = no_kind line (λ e. omega (arith, get_or_past line 1 0 (omega arith)))
-
--- texts that differ do not compare as the same
-pub apart : (xs ys : List ℕ) → (xs ≡ ys → ⊥) → bytes_eq xs ys ≡ false
-apart xs ys ne = ⊎_elim (λ (t : bytes_eq xs ys ≡ true). absurd (ne ((bytes_eq-Decides xs ys).0 t))) (λ (f : bytes_eq xs ys ≡ false). f) (cases_Bool (bytes_eq xs ys))
-
--- a pair, by the two numbers beside its first equals sign
-pub pair_cut : (f : List ℕ) (n : ℕ) (d v : Option ℕ) → n ≡ before 61 f → d ≡ number_up_to 255 (take (n - 0) f) → v ≡ number_up_to 255 (drop (n + 1) f) → both d v ≡ pair_of f
-unfolding pair_of
-pair_cut f n d v e p q =
-    let m : n - 0 ≡ before 61 f = sub-zero n ∙ e in
-    let p' : d ≡ number_up_to 255 (take (before 61 f) f) = p ∙ ap (λ (k : ℕ). number_up_to 255 (take k f)) m in
-    let q' : v ≡ number_up_to 255 (drop (before 61 f + 1) f) = q ∙ ap (λ (k : ℕ). number_up_to 255 (drop (k + 1) f)) e in
-    cc
+use Rattle.statements.specs.Statements.{fault, formed, front}
 
 -- nothing is no number
-pub no_number : (limit n : ℕ) (f : List ℕ) → length f ≤ n → None ≡ number_up_to limit (drop n f)
-no_number limit n f h = none_if_empty limit (drop n f) (omega (arith, length-drop n f))
+pub formed_missing : (n c limit : ℕ) (fs : List (List ℕ)) → fs ≡ [] → Err (fault MalformedField n c) ≡ formed n c (number_up_to limit (front fs))
+formed_missing n c limit fs e =
+    ap (formed n c) (none_if_empty limit [] (omega arith)) ∙ ap (λ (gs : List (List ℕ)). formed n c (number_up_to limit (front gs))) (sym e)
+
+-- the pair of two halves, if there are two
+abbrev pub paired : Option (List ℕ × List ℕ) → Option Literal
+paired None = None
+paired (Some p) = both (number_up_to 255 p.0) (number_up_to 255 p.1)
+
+pub paired_is : (f : List ℕ) (o : Option (List ℕ × List ℕ)) → o ≡ halves 61 f → paired o ≡ pair_of f
+unfolding pair_of
+paired_is f o e =
+    ap paired e
+    ∙ ⊎_elim (λ (has : before 61 f < length f). ap paired (cond-true _ _ None (lt-ltb (before 61 f) (length f) has)))
+    (λ (lacks : length f ≤ before 61 f).
+    ap paired (cond-false _ _ None (le-ltb (before 61 f) (length f) lacks))
+    ∙ lone (number_up_to 255 (take (before 61 f) f))
+    ∙ ap (both (number_up_to 255 (take (before 61 f) f))) (none_if_empty 255 (drop (before 61 f + 1) f) (omega (arith, length-drop (before 61 f + 1) f))))
+    (cases_lt (before 61 f) (length f))
+  where
+    lone : (d : Option ℕ) → None ≡ both d None
+    lone None = refl
+    lone (Some d) = refl

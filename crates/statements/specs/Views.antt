@@ -1,5 +1,7 @@
 -- What values of the code stand for.
-use Rattle.std.specs.Prelude.{◌≡◌, ℕ, ◌+◌, Bool, List, take, drop, None, Ok, Err, Option, Result}
+use Rattle.std.specs.Prelude.{◌≡◌, ℕ, ◌+◌, Bool, List, length, take, drop, IfSome, None, Ok, Err, Option, Result}
+use Rattle.std.specs.Iterator.{YieldsFirstBy}
+use Rattle.arrayvec.specs.ArrayVec.{ArrayVec}
 use Rattle.rules.specs.declared.literal.Literal.{Literal}
 use Rattle.reading.specs.Cursors.{column, left}
 use Rattle.reading.specs.Numbers.{number_up_to}
@@ -9,7 +11,6 @@ use Rattle.statements.specs.Statements.{Stated, decides, past, rules}
 use Rattle.statements.specs.declared.fields.Fields.{Fields}
 use Rattle.statements.specs.declared.line.Line.{Line}
 use Rattle.statements.specs.declared.lines.Lines.{Lines}
-use Rattle.statements.specs.declared.pairs.Pairs.{Pairs}
 use Rattle.statements.specs.declared.statement.Statement.{Statement}
 use Rattle.statements.specs.declared.statement.Statement.TheVariants.{Decision, Rule}
 use Rattle.statements.specs.declared.token.Token.{Token}
@@ -23,9 +24,13 @@ line_of l = record { bytes = l.bytes.now; number = l.number; ended = l.ended }
 abbrev pub left_lines : Lines → List TextLine
 left_lines l = numbered (l.given + 1) (left l.pieces)
 
+-- what taking a line answers and leaves: the first of those to come, as the part of the text from the cursor on; or none, if none is to come
+abbrev pub Given : Lines → Option Line → Lines → Type 0
+Given f r g = YieldsFirstBy line_of left_lines f r g × IfSome r (λ l. l.bytes.now ≡ take (length l.bytes.now) (drop f.pieces.place f.pieces.text.now))
+
 -- the pairs in use
-abbrev pub pairs_of : Pairs → List Literal
-pairs_of p = take p.count p.list
+abbrev pub pairs_of : ArrayVec Literal → List Literal
+pairs_of p = p.items
 
 -- the number, the mark or the pair that a token is, if it is of that form
 abbrev pub number_in : ℕ → Token → Option ℕ

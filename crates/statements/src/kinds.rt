@@ -1,33 +1,29 @@
 //! The kind of a line.
-ghost use Rattle.std.specs.Prelude.{◌≡◌, ◌≤◌, not, ◌&&◌, ◌||◌, length, IfSome};
+ghost use Rattle.std.specs.Prelude.{◌≡◌, not, ◌&&◌, ◌||◌};
+ghost use Rattle.std.specs.Option.{ok_or};
 ghost use Rattle.reading.specs.Pieces.{is_nil};
+ghost use Rattle.rules.specs.declared.refusal.Refusal.TheVariants.{UnknownLine};
 ghost use Rattle.statements.specs.Fields.{heads, takes_field};
-ghost use Rattle.statements.specs.Lines.{is_decision, kind_by, kind_of};
+ghost use Rattle.statements.specs.Lines.{is_decision, kind_by};
 
 use crate::LineKind;
+use rules::Refusal;
 
-/// The kind that a line's first byte stands for.
-fn kind_by(byte: u8) -> Option<LineKind>
-    ensures { result ≡ kind_by byte }
-{
-    match byte as char {
-        'D' => Some(LineKind::Decision),
-        'F' => Some(LineKind::Forbid),
-        'A' => Some(LineKind::Activate),
-        'P' => Some(LineKind::Price),
-        _ => None,
-    }
-}
+impl TryFrom<char> for LineKind {
+    type Error = Refusal;
 
-/// The kind of a line, by its first byte, if a space follows.
-pub fn kind_of(line: &[u8]) -> Option<LineKind>
-    ensures value { result ≡ kind_of line.now }
-    ensures long { IfSome result (λ k. 2 ≤ length line.now) }
-{
-    if line.len() < 2 || line[1] != b' ' {
-        return None;
+    ghost try_from_gives = { λ letter r. r ≡ ok_or (kind_by letter) UnknownLine };
+
+    /// The kind that a line's first letter stands for.
+    fn try_from(letter: char) -> Result<LineKind, Refusal> {
+        match letter {
+            'D' => Ok(LineKind::Decision),
+            'F' => Ok(LineKind::Forbid),
+            'A' => Ok(LineKind::Activate),
+            'P' => Ok(LineKind::Price),
+            _ => Err(Refusal::UnknownLine),
+        }
     }
-    kind_by(line[0])
 }
 
 impl LineKind {
@@ -35,7 +31,7 @@ impl LineKind {
     pub fn is_decision(self) -> bool
         ensures { result ≡ is_decision self }
     {
-        matches!(self, LineKind::Decision)
+        self == LineKind::Decision
     }
 
     /// Whether a line of this kind comes too late: it states a decision, and a rule came before.
@@ -60,10 +56,7 @@ impl LineKind {
     pub fn takes_field(self, place: usize) -> bool
         ensures { result ≡ takes_field self place }
     {
-        match self {
-            LineKind::Decision => place < 2,
-            _ => true,
-        }
+        !self.is_decision() || place < 2
     }
 
     /// Whether a line of this kind cannot have this field at a place, counted from 0: it is empty or too many.

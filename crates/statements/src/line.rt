@@ -1,7 +1,7 @@
 //! The lines of a book.
 
 /// A line of a text, without the byte that ends it; its number counts from 1.
-#[derive(Clone, Copy)]
+#[derive(Clone, Copy, Debug, PartialEq, Eq)]
 pub struct Line<'a> {
     pub bytes: &'a [u8],
     pub number: usize,
@@ -10,7 +10,7 @@ pub struct Line<'a> {
 }
 
 /// The kinds of line, each with the byte that a line of the kind begins with.
-#[derive(Clone, Copy)]
+#[derive(Clone, Copy, Debug, PartialEq, Eq)]
 pub enum LineKind {
     Decision = 68,
     Forbid = 70,

@@ -1,36 +1,14 @@
 //! Reading a line.
-ghost use Rattle.std.specs.Prelude.{◌≡◌, ◌≤◌, length};
+ghost use Rattle.std.specs.Prelude.{◌≡◌};
 ghost use Rattle.statements.specs.Fields.{fields_of};
-ghost use Rattle.statements.specs.Statements.{read_activate, read_decision, read_fields, read_forbid, read_line, read_price, ruled};
-ghost use Rattle.statements.specs.Views.{line_of, on_ok, pairs_of, place, remaining, stated_of};
+ghost use Rattle.statements.specs.Statements.{read_activate, read_decision, read_fields, read_forbid, read_line, read_pairs, read_price, ruled, then};
+ghost use Rattle.statements.specs.Views.{line_of, on_ok, place, remaining, stated_of};
 
-use crate::counting::check_fields;
 use crate::fields::Fields;
-use crate::kinds::kind_of;
-use crate::{Fault, Line, LineKind, Pairs, Parts, Statement};
+use crate::known::KnownLine;
+use crate::{Fault, Line, LineKind, Parts, Statement};
 use measure::Price;
 use rules::{Decision, Kind, Refusal};
-
-/// The largest cents that a field may state.
-const MOST_CENTS: u32 = 4_294_967_295;
-
-/// The price of a rule that states none.
-const FREE: Price = Price { tier: 0, cents: 0 };
-
-/// A rule, unless its pairs are missing or more than four.
-fn rule_of(line: usize, parts: Parts) -> Result<Statement, Fault>
-    ensures { on_ok stated_of result ≡ ruled line parts.kind (pairs_of parts.pairs) parts.target parts.price }
-{
-    let count = parts.pairs.as_slice().len();
-    if count < 1 || count > 4 {
-        return Err(Fault {
-            refusal: Refusal::PairCount,
-            line,
-            column: 1,
-        });
-    }
-    Ok(Statement::Rule(parts))
-}
 
 /// Reads a decision: its size, and its mark.
 fn read_decision(mut fields: Fields) -> Result<Statement, Fault>
@@ -41,67 +19,53 @@ fn read_decision(mut fields: Fields) -> Result<Statement, Fault>
     Ok(Statement::Decision(Decision { size, on }))
 }
 
-/// Reads a forbid rule: its pairs.
-fn read_forbid(mut fields: Fields) -> Result<Statement, Fault>
-    ensures { on_ok stated_of result ≡ read_forbid fields.entry.line (place fields.entry) (remaining fields.entry) }
+/// Reads the pairs of a rule, which has its other parts. Refuses a rule whose pairs are missing or more than four.
+fn read_rule(fields: Fields, kind: Kind, target: u8, price: Price) -> Result<Statement, Fault>
+    ensures { on_ok stated_of result ≡ then (read_pairs fields.entry.line (place fields.entry) (remaining fields.entry)) (λ ps. ruled fields.entry.line kind ps target price) }
 {
     let line = fields.line();
     let pairs = fields.pairs()?;
-    rule_of(
-        line,
-        Parts {
-            kind: Kind::Forbid,
-            pairs,
-            target: 0,
-            price: FREE,
-        },
-    )
+    if pairs.is_empty() || pairs.len() > 4 {
+        return Err(Fault::at_line(Refusal::PairCount, line));
+    }
+    Ok(Statement::Rule(Parts {
+        kind,
+        pairs,
+        target,
+        price,
+    }))
+}
+
+/// Reads a forbid rule: its pairs.
+fn read_forbid(fields: Fields) -> Result<Statement, Fault>
+    ensures { on_ok stated_of result ≡ read_forbid fields.entry.line (place fields.entry) (remaining fields.entry) }
+{
+    read_rule(fields, Kind::Forbid, 0, Price::default())
 }
 
 /// Reads an activate rule: its target, then its pairs.
 fn read_activate(mut fields: Fields) -> Result<Statement, Fault>
     ensures { on_ok stated_of result ≡ read_activate fields.entry.line (place fields.entry) (remaining fields.entry) }
 {
-    let line = fields.line();
     let target = fields.byte()?;
-    let pairs = fields.pairs()?;
-    rule_of(
-        line,
-        Parts {
-            kind: Kind::Activate,
-            pairs,
-            target,
-            price: FREE,
-        },
-    )
+    read_rule(fields, Kind::Activate, target, Price::default())
 }
 
 /// Reads a price rule: tier and cents, then its pairs.
 fn read_price(mut fields: Fields) -> Result<Statement, Fault>
     ensures { on_ok stated_of result ≡ read_price fields.entry.line (place fields.entry) (remaining fields.entry) }
 {
-    let line = fields.line();
     let tier = fields.byte()?;
-    let cents = fields.number(MOST_CENTS)?;
-    let pairs = fields.pairs()?;
-    rule_of(
-        line,
-        Parts {
-            kind: Kind::Price,
-            pairs,
-            target: 0,
-            price: Price { tier, cents },
-        },
-    )
+    let cents = fields.number()?;
+    read_rule(fields, Kind::Price, 0, Price { tier, cents })
 }
 
-/// Reads the fields of a line of a kind.
-fn read_fields(kind: LineKind, line: &Line) -> Result<Statement, Fault>
-    requires { 2 ≤ length line.now.bytes.now }
-    ensures { on_ok stated_of result ≡ read_fields kind line.now.number (fields_of line.now.bytes.now) }
+/// Reads the fields of a line of a known kind.
+fn read_fields(known: &KnownLine) -> Result<Statement, Fault>
+    ensures { on_ok stated_of result ≡ read_fields known.now.kind known.now.line.number (fields_of known.now.line.bytes.now) }
 {
-    let fields = Fields::of(line);
-    match kind {
+    let fields = Fields::of(known);
+    match known.kind {
         LineKind::Decision => read_decision(fields),
         LineKind::Forbid => read_forbid(fields),
         LineKind::Activate => read_activate(fields),
@@ -115,20 +79,10 @@ fn read_fields(kind: LineKind, line: &Line) -> Result<Statement, Fault>
 pub fn read_line(line: &Line, began: bool) -> Result<Statement, Fault>
     ensures { on_ok stated_of result ≡ read_line began (line_of line.now) }
 {
-    let Some(kind) = kind_of(line.bytes) else {
-        return Err(Fault {
-            refusal: Refusal::UnknownLine,
-            line: line.number,
-            column: 1,
-        });
-    };
-    if kind.is_late(began) {
-        return Err(Fault {
-            refusal: Refusal::DecisionAfterRule,
-            line: line.number,
-            column: 1,
-        });
+    let known = KnownLine::of(line).ok_or(Fault::at_line(Refusal::UnknownLine, line.number))?;
+    if known.kind.is_late(began) {
+        return Err(Fault::at_line(Refusal::DecisionAfterRule, line.number));
     }
-    check_fields(kind, line)?;
-    read_fields(kind, line)
+    known.check_fields()?;
+    read_fields(&known)
 }

@@ -1,16 +1,15 @@
 //! The fields of a line as tokens: each is the part of the text that it occupies.
-ghost use Rattle.std.specs.Prelude.{◌≡◌, ◌≤◌, IfOk};
-ghost use Rattle.rules.specs.declared.refusal.Refusal.TheVariants.{MalformedField};
+ghost use Rattle.std.specs.Prelude.{◌≡◌};
 ghost use Rattle.statements.specs.Statements.{formed};
 ghost use Rattle.statements.specs.Views.{mark_in, number_in, pair_in};
 
 use crate::Fault;
-use crate::forms::{mark_of, pair_of};
+use crate::forms::{byte_of, mark_of, pair_of};
 use reading::number;
 use rules::{Literal, Refusal};
 
 /// A field, by the form that its place asks for.
-#[derive(Clone, Copy)]
+#[derive(Clone, Copy, Debug, PartialEq, Eq)]
 pub enum Token<'a> {
     Number(&'a [u8]),
     Mark(&'a [u8]),
@@ -18,53 +17,64 @@ pub enum Token<'a> {
 }
 
 /// A token, with its line and column, both counted from 1.
-#[derive(Clone, Copy)]
+#[derive(Clone, Copy, Debug, PartialEq, Eq)]
 pub struct Placed<'a> {
     pub token: Token<'a>,
     pub line: usize,
     pub column: usize,
 }
 
-impl Placed<'_> {
-    /// The fault of a token that is not of its form.
-    fn malformed(&self) -> Fault
-        ensures { result ≡ record { refusal = MalformedField; line = self.now.line; column = self.now.column } }
+impl Token<'_> {
+    /// The number up to 255 that the token is.
+    pub fn byte(self) -> Option<u8>
+        ensures { result ≡ number_in 255 self.entry }
     {
-        Fault {
-            refusal: Refusal::MalformedField,
-            line: self.line,
-            column: self.column,
+        match self {
+            Token::Number(part) => byte_of(part),
+            _ => None,
         }
     }
 
-    /// The number that the token is, up to a limit.
-    pub fn number(&self, limit: u32) -> Result<u32, Fault>
-        ensures value { result ≡ formed self.now.line self.now.column (number_in limit self.now.token) }
-        ensures bound { IfOk result (λ n. n ≤ limit) }
+    /// The number that the token is.
+    pub fn number(self) -> Option<u32>
+        ensures { result ≡ number_in 4294967295 self.entry }
     {
-        match self.token {
-            Token::Number(part) => number(part, limit).ok_or(self.malformed()),
-            _ => Err(self.malformed()),
+        match self {
+            Token::Number(part) => number(part, u32::MAX),
+            _ => None,
         }
     }
 
     /// The mark that the token is.
-    pub fn mark(&self) -> Result<bool, Fault>
-        ensures { result ≡ formed self.now.line self.now.column (mark_in self.now.token) }
+    pub fn mark(self) -> Option<bool>
+        ensures { result ≡ mark_in self.entry }
     {
-        match self.token {
-            Token::Mark(part) => mark_of(part).ok_or(self.malformed()),
-            _ => Err(self.malformed()),
+        match self {
+            Token::Mark(part) => mark_of(part),
+            _ => None,
         }
     }
 
     /// The pair that the token is.
-    pub fn pair(&self) -> Result<Literal, Fault>
-        ensures { result ≡ formed self.now.line self.now.column (pair_in self.now.token) }
+    pub fn pair(self) -> Option<Literal>
+        ensures { result ≡ pair_in self.entry }
     {
-        match self.token {
-            Token::Pair(part) => pair_of(part).ok_or(self.malformed()),
-            _ => Err(self.malformed()),
+        match self {
+            Token::Pair(part) => pair_of(part),
+            _ => None,
         }
+    }
+}
+
+impl Placed<'_> {
+    /// What a form reads of the token, or the fault of a token that is not of that form.
+    pub fn formed<T>(&self, read: Option<T>) -> Result<T, Fault>
+        ensures { result ≡ formed self.now.line self.now.column read }
+    {
+        read.ok_or(Fault {
+            refusal: Refusal::MalformedField,
+            line: self.line,
+            column: self.column,
+        })
     }
 }

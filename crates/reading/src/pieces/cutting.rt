@@ -1,21 +1,25 @@
 //! Cutting a text at a byte.
-ghost use Rattle.std.specs.Prelude.{◌≡◌, ◌+◌, ◌≤◌, length};
+ghost use Rattle.std.specs.Prelude.{◌≡◌, ◌+◌, ◌^◌, ◌<◌, ◌≤◌, length, ◌==◌, option_map};
+ghost use Rattle.std.specs.Iterator.{item_count};
+ghost use Rattle.std.specs.List.{position};
 ghost use Rattle.reading.specs.Cursors.{Taken, column, left, left_at};
-ghost use Rattle.reading.specs.Pieces.{before, is_nil};
+ghost use Rattle.reading.specs.Pieces.{halves, is_nil};
 
 use crate::pieces::{Piece, Pieces};
 
-/// How many bytes stand before the first `at`.
-pub fn bytes_before(at: u8, text: &[u8]) -> usize
-    ensures value { result ≡ before at text.now }
-    ensures within { result ≤ length text.now }
+/// The place of the first `at` in a text, if there is one.
+fn place_of(text: &[u8], at: u8) -> Option<usize>
+    ensures { result ≡ position (λ x. x == at) text.now }
 {
-    for (i, byte) in text.iter().enumerate() {
-        if *byte == at {
-            return i;
-        }
-    }
-    text.len()
+    text.iter().position(|byte| *byte == at)
+}
+
+/// What stands in a text before the first `at` and what behind it, if there is one.
+pub fn split_once(text: &[u8], at: u8) -> Option<(&[u8], &[u8])>
+    ensures { option_map (λ p. (p.0.now, p.1.now)) result ≡ halves at text.now }
+{
+    let place = place_of(text, at)?;
+    Some((&text[..place], &text[place + 1..]))
 }
 
 impl<'a> Pieces<'a> {
@@ -24,25 +28,9 @@ impl<'a> Pieces<'a> {
         requires { place ≤ length text.now + 1 }
         ensures left { left result ≡ left_at at text.now place }
         ensures column { column result ≡ place + 1 }
+        ensures few { length (left result) < 2 ^ 64 }
     {
         Pieces { text, at, place }
-    }
-
-    /// The next piece, if there is one.
-    pub fn next(&mut self) -> Option<Piece<'a>>
-        ensures { Taken self.old result self.new }
-    {
-        let start = self.place;
-        if start > self.text.len() {
-            return None;
-        }
-        let rest = &self.text[start..];
-        let count = bytes_before(self.at, rest);
-        self.place = start + count + 1;
-        Some(Piece {
-            bytes: &rest[0..count],
-            column: start + 1,
-        })
     }
 
     /// The column of the next piece.
@@ -57,5 +45,22 @@ impl<'a> Pieces<'a> {
         ensures { result ≡ is_nil (left self.now) }
     {
         self.place > self.text.len()
+    }
+}
+
+impl<'a> Iterator for Pieces<'a> {
+    type Item = Piece<'a>;
+
+    ghost next_gives = { Taken };
+
+    ghost remaining = { item_count left };
+
+    /// The next piece, if there is one.
+    fn next(&mut self) -> Option<Piece<'a>> {
+        let rest = self.text.get(self.place..)?;
+        let bytes = split_once(rest, self.at).map_or(rest, |(first, _)| first);
+        let column = self.column();
+        self.place += bytes.len() + 1;
+        Some(Piece { bytes, column })
     }
 }

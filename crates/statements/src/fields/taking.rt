@@ -1,28 +1,29 @@
 //! Taking the fields of a line, each in its form.
-ghost use Rattle.std.specs.Prelude.{◌≡◌, ◌-◌, ◌≤◌, length, take, drop, IfOk};
+ghost use Rattle.std.specs.Prelude.{◌≡◌, ◌-◌, List, [], ◌∷◌, length, take, drop, MatchResult};
 ghost use Rattle.reading.specs.Numbers.{number_up_to};
+ghost use Rattle.rules.specs.declared.refusal.Refusal.TheVariants.{MalformedField};
 ghost use Rattle.statements.specs.Fields.{fields_of};
 ghost use Rattle.statements.specs.Forms.{mark_of};
-ghost use Rattle.statements.specs.Statements.{formed, front, read_pairs};
-ghost use Rattle.statements.specs.Views.{Advanced, on_ok, pairs_of, place, remaining};
+ghost use Rattle.statements.specs.Statements.{fault, formed, front, read_pairs};
+ghost use Rattle.statements.specs.Views.{Advanced, on_ok, place, remaining};
 
 use crate::fields::Fields;
-use crate::forms::MOST;
+use crate::known::KnownLine;
 use crate::token::{Placed, Token};
-use crate::{Fault, Line, Pairs};
-use reading::{Piece, Pieces};
+use crate::{Fault, Pairs};
+use reading::Piece;
+use rules::Refusal;
 
 impl<'a> Fields<'a> {
     /// The fields of a line.
-    pub fn of(line: &Line<'a>) -> Fields<'a>
-        requires { 2 ≤ length line.now.bytes.now }
-        ensures fields { remaining result ≡ fields_of line.now.bytes.now }
+    pub fn of(known: &KnownLine<'a>) -> Fields<'a>
+        ensures fields { remaining result ≡ fields_of known.now.line.bytes.now }
         ensures place { place result ≡ 3 }
-        ensures line { result.line ≡ line.now.number }
+        ensures line { result.line ≡ known.now.line.number }
     {
         Fields {
-            pieces: Pieces::starting(line.bytes, b' ', 2),
-            line: line.number,
+            pieces: known.fields(),
+            line: known.line.number,
         }
     }
 
@@ -33,33 +34,28 @@ impl<'a> Fields<'a> {
         self.line
     }
 
-    /// The next field; an empty one if there is none.
-    fn take(&mut self) -> Piece<'a>
-        ensures value { result.bytes.now ≡ front (remaining self.old) }
-        ensures column { result.column ≡ place self.old }
-        ensures part { result.bytes.now ≡ take (length result.bytes.now) (drop (result.column - 1) self.old.pieces.text.now) }
-        ensures after { Advanced self.old self.new }
+    /// A field of the line as the token that its place asks for.
+    fn placed(&self, token: Token<'a>, column: usize) -> Placed<'a>
+        ensures { result ≡ record { token = token.entry; line = self.now.line; column = column } }
     {
-        let column = self.pieces.column();
-        match self.pieces.next() {
-            Some(piece) => piece,
-            None => Piece { bytes: &[], column },
+        Placed {
+            token,
+            line: self.line,
+            column,
         }
     }
 
-    /// The next field as a number up to a limit.
-    pub fn number(&mut self, limit: u32) -> Result<u32, Fault>
-        ensures value { result ≡ formed self.old.line (place self.old) (number_up_to limit (front (remaining self.old))) }
-        ensures bound { IfOk result (λ n. n ≤ limit) }
+    /// The next field, or the fault of a field that is missing.
+    fn take(&mut self) -> Result<Piece<'a>, Fault>
+        ensures value { MatchResult result (λ p. (front (remaining self.old) ≡ p.bytes.now) × (p.column ≡ place self.old) × (p.bytes.now ≡ take (length p.bytes.now) (drop (p.column - 1) self.old.pieces.text.now))) (λ e. (remaining self.old ≡ []) × (e ≡ fault MalformedField self.old.line (place self.old))) }
         ensures after { Advanced self.old self.new }
     {
-        let field = self.take();
-        let placed = Placed {
-            token: Token::Number(field.bytes),
+        let column = self.pieces.column();
+        self.pieces.next().ok_or(Fault {
+            refusal: Refusal::MalformedField,
             line: self.line,
-            column: field.column,
-        };
-        placed.number(limit)
+            column,
+        })
     }
 
     /// The next field as a number up to 255.
@@ -67,10 +63,19 @@ impl<'a> Fields<'a> {
         ensures value { result ≡ formed self.old.line (place self.old) (number_up_to 255 (front (remaining self.old))) }
         ensures after { Advanced self.old self.new }
     {
-        match self.number(MOST) {
-            Ok(number) => Ok(number as u8),
-            Err(fault) => Err(fault),
-        }
+        let field = self.take()?;
+        let placed = self.placed(Token::Number(field.bytes), field.column);
+        placed.formed(placed.token.byte())
+    }
+
+    /// The next field as a number.
+    pub fn number(&mut self) -> Result<u32, Fault>
+        ensures value { result ≡ formed self.old.line (place self.old) (number_up_to 4294967295 (front (remaining self.old))) }
+        ensures after { Advanced self.old self.new }
+    {
+        let field = self.take()?;
+        let placed = self.placed(Token::Number(field.bytes), field.column);
+        placed.formed(placed.token.number())
     }
 
     /// The next field as a mark word.
@@ -78,27 +83,23 @@ impl<'a> Fields<'a> {
         ensures value { result ≡ formed self.old.line (place self.old) (mark_of (front (remaining self.old))) }
         ensures after { Advanced self.old self.new }
     {
-        let field = self.take();
-        let placed = Placed {
-            token: Token::Mark(field.bytes),
-            line: self.line,
-            column: field.column,
-        };
-        placed.mark()
+        let field = self.take()?;
+        let placed = self.placed(Token::Mark(field.bytes), field.column);
+        placed.formed(placed.token.mark())
     }
 
     /// The fields to come, as pairs.
-    pub fn pairs(&mut self) -> Result<Pairs, Fault>
-        ensures { on_ok pairs_of result ≡ on_ok (take 5) (read_pairs self.old.line (place self.old) (remaining self.old)) }
+    pub fn pairs(self) -> Result<Pairs, Fault>
+        ensures { on_ok (λ ps. ps.items) result ≡ on_ok (take 5) (read_pairs self.entry.line (place self.entry) (remaining self.entry)) }
     {
         let mut pairs = Pairs::new();
-        while let Some(field) = self.pieces.next() {
-            let placed = Placed {
-                token: Token::Pair(field.bytes),
-                line: self.line,
-                column: field.column,
-            };
-            pairs.push(placed.pair()?);
+        for field in self.pieces {
+            let placed = self.placed(Token::Pair(field.bytes), field.column);
+            let pair = placed.formed(placed.token.pair())?;
+            // A sixth pair does not matter: the line has too many.
+            if !pairs.is_full() {
+                pairs.push(pair);
+            }
         }
         Ok(pairs)
     }

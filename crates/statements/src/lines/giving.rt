@@ -1,9 +1,10 @@
 //! Giving the lines of a text one by one.
-ghost use Rattle.std.specs.Prelude.{◌≡◌, ◌&&◌, [], ◌∷◌, length, take, drop, IfSome, MatchOption};
+ghost use Rattle.std.specs.Prelude.{◌≡◌, ◌&&◌};
+ghost use Rattle.std.specs.Iterator.{item_count};
 ghost use Rattle.reading.specs.Cursors.{left};
 ghost use Rattle.reading.specs.Pieces.{is_nil};
 ghost use Rattle.statements.specs.Lines.{lines_of};
-ghost use Rattle.statements.specs.Views.{left_lines, line_of};
+ghost use Rattle.statements.specs.Views.{Given, left_lines};
 
 use crate::{Line, Lines};
 use reading::Pieces;
@@ -25,25 +26,26 @@ impl<'a> Lines<'a> {
             given: 0,
         }
     }
+}
+
+impl<'a> Iterator for Lines<'a> {
+    type Item = Line<'a>;
+
+    ghost next_gives = { Given };
+
+    ghost remaining = { item_count left_lines };
 
     /// The next line, if there is one, as the part of the text that it occupies. What stands behind the last byte 10 is a line only if it is not empty.
-    pub fn next(&mut self) -> Option<Line<'a>>
-        ensures next { MatchOption result (left_lines self.old ≡ []) (λ l. left_lines self.old ≡ line_of l ∷ left_lines self.new) }
-        ensures part { IfSome result (λ l. l.bytes.now ≡ take (length l.bytes.now) (drop self.old.pieces.place self.old.pieces.text.now)) }
-    {
-        match self.pieces.next() {
-            Some(piece) => {
-                if is_end(piece.bytes, &self.pieces) {
-                    return None;
-                }
-                self.given += 1;
-                Some(Line {
-                    bytes: piece.bytes,
-                    number: self.given,
-                    ended: !self.pieces.is_empty(),
-                })
-            }
-            None => None,
+    fn next(&mut self) -> Option<Line<'a>> {
+        let piece = self.pieces.next()?;
+        if is_end(piece.bytes, &self.pieces) {
+            return None;
         }
+        self.given += 1;
+        Some(Line {
+            bytes: piece.bytes,
+            number: self.given,
+            ended: !self.pieces.is_empty(),
+        })
     }
 }

@@ -11,12 +11,12 @@ returns-in_err-began g c =
     ap (on_ok _) (q.1 ∙ ap Err q.2)
     ∙ sym
     (c.loop-line.invariant
-    ∙ lines_stop g.M.Measure.meaning c.loop-line.began (account_of c.loop-line.planner) (line_of c.in-Some.line) (left_lines c.next.new.self) _ c.in_err-began.field-0.0 c.in-Some.ensures.next (sym c.in_err-began.ensures))
+    ∙ lines_stop g.M.Measure.meaning c.loop-line.began (account_of c.loop-line.planner) (line_of c.in-Some.line) (left_lines c.next.new.self) _ c.in_err-began.field-0.0 c.in-Some.ensures.steps.0 (sym c.in_err-began.ensures))
 
 pub loop-line-preserved : goal.loop-line-preserved
 loop-line-preserved g c =
     c.loop-line.invariant
-    ∙ lines_go_on g.M.Measure.meaning c.loop-line.began (account_of c.loop-line.planner) (line_of c.in-Some.line) (left_lines c.next.new.self) _ _ (account_of c.load_line.new.planner) c.in-Some.ensures.next (sym c.in_ok-began.ensures)
+    ∙ lines_go_on g.M.Measure.meaning c.loop-line.began (account_of c.loop-line.planner) (line_of c.in-Some.line) (left_lines c.next.new.self) _ _ (account_of c.load_line.new.planner) c.in-Some.ensures.steps.0 (sym c.in_ok-began.ensures)
 
 pub returns : goal.returns
-returns g c = sym (c.loop-line.invariant ∙ lines_end g.M.Measure.meaning c.loop-line.began (account_of c.loop-line.planner) _ c.in_default.ensures.next)
+returns g c = sym (c.loop-line.invariant ∙ lines_end g.M.Measure.meaning c.loop-line.began (account_of c.loop-line.planner) _ c.in-None.ensures.steps.0.0)

@@ -6,7 +6,4 @@ use Rattle.book.specs.Loads.{load_lines}
 use Rattle.book.proofs.loading.load_lines.Given as goal
 
 abbrev pub invariant-loop-line : goal.invariant-loop-line
-invariant-loop-line g l = load_lines g.M.Measure.meaning false (account_of l.initial.planner) (lines_of l.text) ≡ load_lines g.M.Measure.meaning l.began (account_of l.planner) (left_lines l.lines)
-
-abbrev pub decreases-loop-line : goal.decreases-loop-line
-decreases-loop-line g l = length (left_lines l.lines)
+invariant-loop-line g l = load_lines g.M.Measure.meaning false (account_of l.fn.planner.now) (lines_of l.fn.text.now) ≡ load_lines g.M.Measure.meaning l.began (account_of l.planner) (left_lines l.line-iterator)

@@ -1,18 +1,30 @@
-use Rattle.std.proofs.Common.{◌≡◌, ℕ, ◌+◌, drop, ap, ◌∙◌, arith}
-use Rattle.std.proofs.lemmas.List.{take_rest}
+use Rattle.std.proofs.Common.{Some, None, ap, ◌∙◌}
 use Rattle.reading.specs.Numbers.{number_up_to}
-use Rattle.statements.proofs.Shapes.{no_number, pair_cut}
+use Rattle.statements.specs.Forms.{both}
+use Rattle.statements.proofs.Shapes.{paired_is}
 use Rattle.statements.proofs.forms.pair_of.Goals as goal
-use Rattle.statements.proofs.forms.pair_of.Goals.{then-count-field, else-count-field}
+
+pub returns-in_err-decision : goal.returns-in_err-decision
+returns-in_err-decision c = c.from_residual.ensures ∙ paired_is c.args.field.now None c.in_err-decision.ensures
+
+pub returns-in_err-byte_of : goal.returns-in_err-byte_of
+returns-in_err-byte_of c =
+    let v = c.in_ok-decision.value.now in
+    c.from_residual-in_err-byte_of.ensures ∙ ap (λ d. both d (number_up_to 255 v)) c.in_err-byte_of.ensures
+    ∙ paired_is c.args.field.now (Some (c.in_ok-decision.decision.now, v)) c.in_ok-decision.ensures
+
+pub returns-in_err-byte_of-2 : goal.returns-in_err-byte_of-2
+returns-in_err-byte_of-2 c =
+    let d = c.in_ok-decision.decision.now in
+    let v = c.in_ok-decision.value.now in
+    c.from_residual-in_err-byte_of-2.ensures ∙ ap (both (Some c.in_ok-byte_of.field-0)) c.in_err-byte_of-2.ensures
+    ∙ ap (λ o. both o (number_up_to 255 v)) c.in_ok-byte_of.ensures
+    ∙ paired_is c.args.field.now (Some (d, v)) c.in_ok-decision.ensures
 
 pub returns : goal.returns
 returns c =
-    let f = c.args.field.now in
-    let n : ℕ = c.bytes_before-count.result in
-    let v : c.if-count-field.value ≡ number_up_to 255 (drop (n + 1) f) =
-    elim c.if-count-field.branch [
-      | then-count-field w ↦ w.value-is ∙ w.byte_of-value.ensures ∙ ap (number_up_to 255) (take_rest f (n + 1))
-      | else-count-field w ↦ w.value-is ∙ no_number 255 (n + 1) f (omega (arith, w.if-count-field.false))
-    ]
-    in
-    c.both.ensures ∙ pair_cut f n c.byte_of-decision.result c.if-count-field.value c.bytes_before-count.ensures.value c.byte_of-decision.ensures v
+    let d = c.in_ok-decision.decision.now in
+    let v = c.in_ok-decision.value.now in
+    ap (both (Some c.in_ok-byte_of.field-0)) c.in_ok-byte_of-2.ensures
+    ∙ ap (λ o. both o (number_up_to 255 v)) c.in_ok-byte_of.ensures
+    ∙ paired_is c.args.field.now (Some (d, v)) c.in_ok-decision.ensures

@@ -1,22 +1,39 @@
-use Rattle.std.proofs.Common.{Ok, Err, sym, ap, ◌∙◌}
+use Rattle.std.proofs.Common.{◌≡◌, None, Some, Ok, Err, sym, ap, ◌∙◌, rules}
+use Rattle.rules.specs.declared.refusal.Refusal.TheVariants.{UnknownLine}
+use Rattle.statements.specs.Fields.{fields_of}
+use Rattle.statements.specs.Lines.{kind_of}
+use Rattle.statements.specs.Statements.{fault, read_fields}
+use Rattle.statements.specs.declared.line.Line.{Line}
 use Rattle.statements.specs.Views.{line_of, on_ok, stated_of}
 use Rattle.statements.proofs.FieldReads.{handed}
 use Rattle.statements.proofs.LineReads.{line_checked, line_late, line_unknown}
 use Rattle.statements.proofs.reading_line.read_line.Goals as goal
 
-pub returns-in_default : goal.returns-in_default
-returns-in_default c = sym (line_unknown c.args.began (line_of c.args.line.now) (sym c.in_default.ensures.value))
+pub returns-in_err-known : goal.returns-in_err-known
+returns-in_err-known c =
+    let none : kind_of c.args.line.now.bytes.now ≡ None = search rules in
+    let e : c.in_err-known.field-0.0 ≡ fault UnknownLine c.args.line.now.number 1 = search rules in
+    ap (on_ok stated_of) (handed c.from_residual.result _ c.from_residual.ensures.1) ∙ ap Err e ∙ sym (line_unknown c.args.began (line_of c.args.line.now) none)
 
 pub returns-then-is_late : goal.returns-then-is_late
-returns-then-is_late c = sym (line_late c.args.began (line_of c.args.line.now) c.in-Some.kind (sym c.in-Some.ensures.value) c.if-is_late.ensures)
+returns-then-is_late c =
+    let known = c.in_ok-known.known in
+    let is : kind_of c.args.line.now.bytes.now ≡ Some known.kind = search rules in
+    ap Err c.at_line-then-is_late.ensures ∙ sym (line_late c.args.began (line_of c.args.line.now) known.kind is c.if-is_late.ensures)
 
 pub returns-in_err-check_fields : goal.returns-in_err-check_fields
 returns-in_err-check_fields c =
+    let known = c.in_ok-known.known in
     let e = c.in_err-check_fields.field-0.0 in
-    ap (on_ok stated_of) (handed c.from_residual.result e c.from_residual.ensures.1)
-    ∙ sym (line_checked c.args.began (line_of c.args.line.now) c.in-Some.kind (Err e) (sym c.in-Some.ensures.value) c.if-is_late.ensures c.in_err-check_fields.ensures)
+    let is : kind_of c.args.line.now.bytes.now ≡ Some known.kind = search rules in
+    let same : known.line ≡ c.args.line.now = search rules in
+    ap (on_ok stated_of) (handed c.from_residual-in_err-check_fields.result e c.from_residual-in_err-check_fields.ensures.1)
+    ∙ sym (line_checked c.args.began (line_of c.args.line.now) known.kind (Err e) is c.if-is_late.ensures (rw (sym same) c.in_err-check_fields.ensures))
 
 pub returns : goal.returns
 returns c =
-    c.read_fields.ensures
-    ∙ sym (line_checked c.args.began (line_of c.args.line.now) c.in-Some.kind (Ok tt) (sym c.in-Some.ensures.value) c.if-is_late.ensures c.in_ok-check_fields.ensures)
+    let known = c.in_ok-known.known in
+    let is : kind_of c.args.line.now.bytes.now ≡ Some known.kind = search rules in
+    let same : known.line ≡ c.args.line.now = search rules in
+    c.read_fields.ensures ∙ ap (λ (l : Line). read_fields known.kind l.number (fields_of l.bytes.now)) same
+    ∙ sym (line_checked c.args.began (line_of c.args.line.now) known.kind (Ok tt) is c.if-is_late.ensures (rw (sym same) c.in_ok-check_fields.ensures))
