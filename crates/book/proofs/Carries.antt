@@ -1,5 +1,5 @@
 -- A rule composed and then added, and what the planner answers to it.
-use Rattle.std.proofs.Common.{◌≡◌, ℕ, List, Some, None, Ok, Err, Option, Result, sym, refl, ap, ◌∙◌, arith}
+use Rattle.std.proofs.Common.{◌≡◌, ℕ, List, Some, None, Ok, Err, Option, Result, sym, refl, ap, ◌∙◌}
 use Rattle.measure.specs.Meaning.{Meaning}
 use Rattle.measure.specs.declared.price.Price.{Price}
 use Rattle.rules.specs.Compose.{compose_refusal, composed}
@@ -17,21 +17,21 @@ use Rattle.planner.specs.Answers.{says_done}
 -- the first of two grounds decides
 pub first_refuses : (x y : Option Refusal) (e : Refusal) → Err e ≡ as_result x → Err e ≡ as_result (or_else x y)
 first_refuses (Some f) y e h = h
-first_refuses None y e h = let z : ◌≡◌ {A = ℕ} 0 1 = cc in absurd (omega arith)
+first_refuses None y e h = cc
 
 pub first_leaves : {X : Type 0} (x y : Option Refusal) (e : Refusal) (old new : X) → Err e ≡ as_result x → old ≡ unless_refused (or_else x y) old new
 first_leaves (Some f) y e old new h = refl
-first_leaves None y e old new h = let z : ◌≡◌ {A = ℕ} 0 1 = cc in absurd (omega arith)
+first_leaves None y e old new h = cc
 
 pub no_first : (x : Option Refusal) (u : Unit {0}) → Ok u ≡ as_result x → x ≡ None
-no_first (Some f) u h = let z : ◌≡◌ {A = ℕ} 0 1 = cc in absurd (omega arith)
+no_first (Some f) u h = cc
 no_first None u h = refl
 
 module _ {C : Type 0} (m : Meaning C) (a : Account C) (r : Rule) where
   said : (x : Result (Unit {0}) Refusal) (o : Option Refusal) → says_done x ≡ answer_if m a (add r) o → x ≡ as_result o
   said (Ok u) None h = refl
-  said (Ok u) (Some e) h = let z : ◌≡◌ {A = ℕ} 0 1 = cc in absurd (omega arith)
-  said (Err f) None h = let z : ◌≡◌ {A = ℕ} 0 1 = cc in absurd (omega arith)
+  said (Ok u) (Some e) h = cc
+  said (Err f) None h = cc
   said (Err f) (Some e) h = cc
 
   left : (o : Option Refusal) → after_if m a (add r) o ≡ unless_refused o a (added m a r.row.kind r.row)

@@ -4,7 +4,6 @@ pub mod Holding
 pub mod Sizes
 pub mod LoadedBack
 pub mod LoadSteps
-pub mod Filling
 pub mod Telling
 pub mod Running
 pub mod Exactness

@@ -1,5 +1,5 @@
 -- Loading a text, line by line.
-use Rattle.std.proofs.Common.{◌≡◌, ℕ, ◌<◌, ◌≤◌, Bool, true, false, ◌||◌, ltb, List, [], ◌∷◌, length, is_err, Some, None, Ok, Err, Option, Result, sym, refl, ap, ◌∙◌, arith}
+use Rattle.std.proofs.Common.{◌≡◌, ℕ, ◌<◌, ◌≤◌, Bool, true, false, ◌||◌, ltb, List, [], ◌∷◌, length, is_err, Some, None, Ok, Err, Option, Result, sym, refl, ap, ◌∙◌}
 use Rattle.std.specs.Option.{option_map}
 use Rattle.std.proofs.lemmas.Bool.{cond-false, cond-true, false≢true, le-ltb, lt-ltb, true≢false}
 use Rattle.measure.specs.Meaning.{Meaning}
@@ -30,7 +30,7 @@ module _ {C : Type 0} (m : Meaning C) (began : Bool) (a : Account C) (l : TextLi
 
   obeyed_not : (o : Option Refusal) (b : Account C) (r : Refusal) → Err r ≡ as_result o → unless (option_map (λ e. fault e l.number 1) o) (Ok b) ≡ Err (fault r l.number 1)
   obeyed_not (Some e) b r h = let q : e ≡ r = cc in ap (λ (x : Refusal). Err (fault x l.number 1)) q
-  obeyed_not None b r h = let z : ◌≡◌ {A = ℕ} 0 1 = cc in absurd (omega arith)
+  obeyed_not None b r h = cc
 
   pub line_refused : (s : Stated) (r : Refusal) → Ok s ≡ read_line began l → Err r ≡ as_result (statement_refusal a s) → line_step m began a l ≡ Err (fault r l.number 1)
   line_refused s r h k =

@@ -1,5 +1,5 @@
 -- What best reports, as the text of an outcome.
-use Rattle.std.proofs.Common.{◌≡◌, ℕ, List, [], map, length, take, drop, Some, None, Option, refl, ap, ◌∙◌, arith}
+use Rattle.std.proofs.Common.{◌≡◌, ℕ, List, [], map, length, take, drop, Some, None, Option, refl, ap, ◌∙◌}
 use Rattle.std.specs.List.{range_with_len}
 use Rattle.std.proofs.lemmas.List.FromFn.{length-map-range_with_len}
 use Rattle.std.proofs.lemmas.List.{take_at}
@@ -32,9 +32,9 @@ reported_text s t n buffer bytes c (Some b) e =
     ∙ ap (outcome_text s (Some b.cost))
     (ap (take n) w ∙ take_at (map b.plan (range_with_len 0 n)) (drop n buffer) n (length-map-range_with_len b.plan 0 n))
 
-pub told : (m : Meaning (Pair Tier Cents)) (a : Account (Pair Tier Cents)) (buffer bytes : List ℕ) (t : State) (c : Option (Pair Tier Cents)) → reported t c bytes ≡ answer m a (best buffer) → outcome_text t c (take (length a.book.decisions) bytes) ≡ account_text a
-told m a buffer bytes t c e = accepted (refusal a (best buffer)) e
+pub reports : (m : Meaning (Pair Tier Cents)) (a : Account (Pair Tier Cents)) (buffer bytes : List ℕ) (t : State) (c : Option (Pair Tier Cents)) → reported t c bytes ≡ answer m a (best buffer) → outcome_text t c (take (length a.book.decisions) bytes) ≡ account_text a
+reports m a buffer bytes t c e = accepted (refusal a (best buffer)) e
   where
     accepted : (o : Option Refusal) → reported t c bytes ≡ answer_if m a (best buffer) o → outcome_text t c (take (length a.book.decisions) bytes) ≡ account_text a
     accepted None h = reported_text a.state t (length a.book.decisions) buffer bytes c a.best h
-    accepted (Some x) h = let z : ◌≡◌ {A = ℕ} 0 1 = cc in absurd (omega arith)
+    accepted (Some x) h = cc

@@ -1,5 +1,4 @@
 pub mod Loads
 pub mod Steps
-pub mod Fills
 pub mod Outcomes
 pub mod Laws

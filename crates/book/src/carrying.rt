@@ -1,54 +1,35 @@
 //! Carrying out what a line states.
-ghost use Rattle.std.specs.Prelude.{◌≡◌, ◌+◌, ◌-◌, ◌≤◌, ◌||◌, [], ◌∷◌, ◌++◌, length, take, replicate};
+ghost use Rattle.std.specs.Prelude.{◌≡◌, ◌||◌, [], ◌∷◌, ◌++◌};
 ghost use Rattle.account.specs.Accounts.{fresh};
 ghost use Rattle.account.specs.Calls.{add_refusal};
 ghost use Rattle.account.specs.Changes.{added};
 ghost use Rattle.planner.specs.Planners.{account_of};
 ghost use Rattle.rules.specs.Compose.{compose_refusal, composed};
 ghost use Rattle.rules.specs.Judging.{open_refusal};
-ghost use Rattle.rules.specs.Plans.{absent};
 ghost use Rattle.rules.specs.Refusals.{as_result, or_else, unless_refused};
 ghost use Rattle.statements.specs.Views.{pairs_of, stated_of};
 ghost use Rattle.book.specs.Loads.{carried, is_rule, statement_refusal};
 
+use arrayvec::ArrayVec;
 use measure::Measure;
 use planner::Planner;
 use rules::{Decision, Refusal, Rule};
 use statements::{Parts, Statement};
 
-/// No decision.
-const ABSENT: Decision = Decision { size: 0, on: false };
-
-/// Decisions, with absent ones behind them.
-fn padded(decisions: &[Decision]) -> [Decision; 65]
-    requires { length decisions.now ≤ 64 }
-    ensures { result ≡ decisions.now ++ replicate (65 - length decisions.now) absent }
-{
-    let mut all = [ABSENT; 65];
-    let front = &mut all[0..decisions.len()];
-    front.copy_from_slice(decisions);
-    all
-}
-
-/// Decisions and one more, with absent ones behind them.
-fn with_one_more(decisions: &[Decision], decision: Decision) -> [Decision; 65]
-    requires { length decisions.now ≤ 64 }
-    ensures long { length result ≡ 65 }
-    ensures value { take (length decisions.now + 1) result ≡ decisions.now ++ decision ∷ [] }
-{
-    let mut all = padded(decisions);
-    all[decisions.len()] = decision;
-    all
-}
+/// Room for one decision more than a planner has.
+const ROOM: usize = 65;
 
 /// Opens a planner over its decisions and one more.
 fn open_with<M: Measure>(planner: &mut Planner<M>, decision: Decision) -> Result<(), Refusal>
     ensures value { result ≡ as_result (open_refusal ((account_of planner.old).book.decisions ++ decision ∷ [])) }
     ensures after { account_of planner.new ≡ unless_refused (open_refusal ((account_of planner.old).book.decisions ++ decision ∷ [])) (account_of planner.old) (fresh ((account_of planner.old).book.decisions ++ decision ∷ [])) }
 {
-    let count = planner.decisions().len();
-    let all = with_one_more(planner.decisions(), decision);
-    planner.open(&all[0..count + 1])
+    let mut decisions = ArrayVec::<Decision, ROOM>::new();
+    decisions
+        .try_extend_from_slice(planner.decisions())
+        .unwrap();
+    decisions.push(decision);
+    planner.open(decisions.as_slice())
 }
 
 /// Composes a rule of its parts, and adds it to a planner.

@@ -6,7 +6,6 @@ mod exact;
 mod loading;
 mod outcome;
 mod planning;
-mod text;
 mod texts;
 
 pub use exact::made_rules_are_exact;

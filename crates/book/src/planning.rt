@@ -2,7 +2,7 @@
 ghost use Rattle.std.specs.Prelude.{◌≡◌};
 ghost use Rattle.measure.specs.Supplied.{cents, pair_of, tier};
 ghost use Rattle.planner.specs.Planners.{account_of};
-ghost use Rattle.book.specs.Fills.{counted, filled};
+ghost use Rattle.rendering.specs.Fills.{counted, filled};
 ghost use Rattle.book.specs.Loads.{loaded};
 ghost use Rattle.book.specs.Outcomes.{after_runs, plan_text, planned_by};
 

@@ -1,35 +1,26 @@
-//! The texts of books, outcomes and faults.
+//! The texts of books and faults.
 ghost use Rattle.std.specs.Prelude.{◌≡◌, ◌++◌};
 ghost use Rattle.planner.specs.Planners.{account_of};
+ghost use Rattle.rendering.specs.Fills.{counted, filled};
 ghost use Rattle.rendering.specs.Texts.{book_text, fault_text};
-ghost use Rattle.book.specs.Fills.{counted, filled};
 ghost use Rattle.book.specs.Laws.{LoadsBack, rows_of};
 
-use crate::text::{Text, fill};
 use measure::Measure;
 use planner::Planner;
-use rendering::{put_decisions, put_fault, put_rules};
+use rendering::{BookText, Text};
 use rules::{Kind, Refusal};
 use statements::Fault;
-use writing::Writer;
 
-impl<M: Measure> Text for Planner<M> {
-    ghost text = { λ p. book_text (account_of p).book.decisions (rows_of (account_of p).book) };
-
-    /// The decisions, then the forbid, activate and price rules, each in place order.
-    fn put(&self, writer: &mut Writer, buffer: &mut [u8]) {
-        put_decisions(writer, buffer, self.decisions());
-        put_rules(writer, buffer, self.rules(Kind::Forbid));
-        put_rules(writer, buffer, self.rules(Kind::Activate));
-        put_rules(writer, buffer, self.rules(Kind::Price));
-    }
-}
-
-impl Text for Fault {
-    ghost text = { λ f. fault_text f.refusal f.line f.column };
-
-    fn put(&self, writer: &mut Writer, buffer: &mut [u8]) {
-        put_fault(writer, buffer, self.refusal, self.line, self.column);
+/// What the book of a planner states.
+fn stated<M: Measure>(planner: &Planner<M>) -> BookText<'_>
+    ensures decisions { result.decisions.now ≡ (account_of planner.now).book.decisions }
+    ensures rules { result.forbids.now ++ (result.activates.now ++ result.prices.now) ≡ rows_of (account_of planner.now).book }
+{
+    BookText {
+        decisions: planner.decisions(),
+        forbids: planner.rules(Kind::Forbid),
+        activates: planner.rules(Kind::Activate),
+        prices: planner.rules(Kind::Price),
     }
 }
 
@@ -41,7 +32,7 @@ pub fn write<M: Measure>(planner: &Planner<M>, buffer: &mut [u8]) -> Result<usiz
     ensures after { buffer.new ≡ filled (book_text (account_of planner.now).book.decisions (rows_of (account_of planner.now).book)) buffer.old }
     ensures law { LoadsBack M.meaning }
 {
-    fill(planner, buffer)
+    stated(planner).fill(buffer)
 }
 
 /// Writes the text of a fault, `refused` with its number, layer, line and column, and answers the byte count; later
@@ -50,5 +41,5 @@ pub fn write_fault(fault: &Fault, buffer: &mut [u8]) -> Result<usize, Refusal>
     ensures value { result ≡ counted (fault_text fault.now.refusal fault.now.line fault.now.column) buffer.old }
     ensures after { buffer.new ≡ filled (fault_text fault.now.refusal fault.now.line fault.now.column) buffer.old }
 {
-    fill(fault, buffer)
+    fault.fill(buffer)
 }

@@ -1,8 +1,8 @@
 //! The fields of a line.
-ghost use Rattle.std.specs.Prelude.{◌∷◌, decimal};
-ghost use Rattle.writing.specs.Writes.{Wrote};
+ghost use Rattle.std.specs.Prelude.{◌≡◌, ◌∷◌, decimal};
+ghost use Rattle.std.specs.List.{fold};
 
-use writing::Writer;
+use writing::Sink;
 
 /// The byte that ends a line.
 pub const LINE_END: u8 = b'\n';
@@ -10,18 +10,18 @@ pub const LINE_END: u8 = b'\n';
 /// The byte in front of a field.
 const SPACE: u8 = b' ';
 
-/// Writes a space and a number.
-pub fn put_number(writer: &mut Writer, buffer: &mut [u8], number: u64)
-    ensures { Wrote writer.old buffer.old (32 ∷ decimal number) writer.new buffer.new }
+/// Puts a space and a number.
+pub fn put_number<S: Sink>(sink: &mut S, number: u64)
+    ensures { sink.new ≡ fold S.after sink.old (32 ∷ decimal number) }
 {
-    writer.byte(buffer, SPACE);
-    writer.number(buffer, number);
+    sink.byte(SPACE);
+    sink.number(number);
 }
 
-/// Writes a space and a word.
-pub fn put_word(writer: &mut Writer, buffer: &mut [u8], word: &[u8])
-    ensures { Wrote writer.old buffer.old (32 ∷ word.now) writer.new buffer.new }
+/// Puts a space and a word.
+pub fn put_word<S: Sink>(sink: &mut S, word: &str)
+    ensures { sink.new ≡ fold S.after sink.old (32 ∷ word.now) }
 {
-    writer.byte(buffer, SPACE);
-    writer.word(buffer, word);
+    sink.byte(SPACE);
+    sink.word(word);
 }

@@ -1,14 +1,15 @@
-//! The text of decisions, rules, faults and outcomes, written into a caller's buffer.
+//! The text of books, faults and outcomes, and writing it into a caller's buffer.
 
 #![tactic(auto)]
 
+mod book;
 mod decisions;
 mod fault;
 mod field;
 mod outcome;
 mod rows;
+mod text;
 
-pub use decisions::put_decisions;
-pub use fault::put_fault;
-pub use outcome::put_outcome;
-pub use rows::put_rules;
+pub use book::BookText;
+pub use outcome::Outcome;
+pub use text::Text;

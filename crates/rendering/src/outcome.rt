@@ -1,71 +1,66 @@
 //! The text of an outcome.
 ghost use Rattle.std.specs.Prelude.{◌≡◌, true, false, [], ◌∷◌, ◌++◌};
-ghost use Rattle.rendering.specs.Texts.{choice_line, choice_lines, cost_fields, ended, outcome_text, outcome_word, spaced};
-ghost use Rattle.writing.specs.Writes.{Wrote};
+ghost use Rattle.std.specs.List.{fold};
+ghost use Rattle.rendering.specs.Texts.{choice_line, choice_lines, cost_fields, ended, outcome_word, spaced};
 
 use crate::field::{LINE_END, put_number};
 use account::State;
 use measure::TierThenCents;
-use writing::Writer;
+use writing::Sink;
+
+mod telling;
+
+/// A plan, a byte for each decision and 0 where it is idle, and its cost.
+#[derive(Clone, Copy)]
+struct Best<'a> {
+    cost: TierThenCents,
+    plan: &'a [u8],
+}
+
+/// How planning stands, and the best if one is held.
+#[derive(Clone, Copy)]
+pub struct Outcome<'a> {
+    state: State,
+    best: Option<Best<'a>>,
+}
 
 /// The first word of an outcome, by whether a best is held.
-fn first_word(state: State, best: bool) -> &'static [u8]
+fn first_word(state: State, best: bool) -> &'static str
     ensures { result.now ≡ outcome_word state best }
 {
     match state {
-        State::Open => b"open",
-        State::Settled => { if best { b"settled" } else { b"none" } }
+        State::Open => "open",
+        State::Settled => { if best { "settled" } else { "none" } }
     }
 }
 
-/// Writes the line of a choice: a decision and its value.
-fn put_choice(writer: &mut Writer, buffer: &mut [u8], decision: usize, value: u8)
-    ensures { Wrote writer.old buffer.old (choice_line decision value ++ 10 ∷ []) writer.new buffer.new }
+/// Puts the line of a choice: a decision and its value.
+#[tactic(auto, unfolding(crate::specs::Texts::choice_line))]
+fn put_choice<S: Sink>(sink: &mut S, decision: usize, value: u8)
+    ensures { sink.new ≡ fold S.after sink.old (choice_line decision value ++ 10 ∷ []) }
 {
-    writer.number(buffer, decision as u64);
-    put_number(writer, buffer, value as u64);
-    writer.byte(buffer, LINE_END);
+    sink.number(decision as u64);
+    put_number(sink, u64::from(value));
+    sink.byte(LINE_END);
 }
 
-/// Writes a line for each chosen decision of a plan, which is a byte for each decision and 0 where it is idle.
-fn put_choices(writer: &mut Writer, buffer: &mut [u8], plan: &[u8])
-    ensures { Wrote writer.old buffer.old (ended (choice_lines 0 plan.now)) writer.new buffer.new }
+/// Puts a line for each chosen decision of a plan.
+fn put_choices<S: Sink>(sink: &mut S, plan: &[u8])
+    ensures { sink.new ≡ fold S.after sink.old (ended (choice_lines 0 plan.now)) }
 {
     for (decision, value) in plan.iter().enumerate() {
         if 0 < *value {
-            put_choice(writer, buffer, decision, *value);
+            put_choice(sink, decision, *value);
         }
     }
 }
 
-/// Writes the first line of an outcome that holds a best, with its cost.
-fn put_best(writer: &mut Writer, buffer: &mut [u8], state: State, cost: TierThenCents)
-    ensures { Wrote writer.old buffer.old ((outcome_word state true ++ spaced (cost_fields cost)) ++ 10 ∷ []) writer.new buffer.new }
+/// Puts the first line of an outcome that holds a best, with its cost.
+fn put_best<S: Sink>(sink: &mut S, state: State, cost: TierThenCents)
+    ensures { sink.new ≡ fold S.after sink.old ((outcome_word state true ++ spaced (cost_fields cost)) ++ 10 ∷ []) }
 {
-    writer.word(buffer, first_word(state, true));
-    put_number(writer, buffer, cost.first.level as u64);
-    put_number(writer, buffer, cost.second.sum);
-    writer.byte(buffer, LINE_END);
-}
-
-/// Writes how planning stands, and the best with its choices if there is one.
-pub fn put_outcome(
-    writer: &mut Writer,
-    buffer: &mut [u8],
-    state: State,
-    best: Option<TierThenCents>,
-    plan: &[u8],
-)
-    ensures { Wrote writer.old buffer.old (outcome_text state best plan.now) writer.new buffer.new }
-{
-    match best {
-        Some(cost) => {
-            put_best(writer, buffer, state, cost);
-            put_choices(writer, buffer, plan);
-        }
-        None => {
-            writer.word(buffer, first_word(state, false));
-            writer.byte(buffer, LINE_END);
-        }
-    }
+    sink.word(first_word(state, true));
+    put_number(sink, u64::from(cost.first.level));
+    put_number(sink, cost.second.sum);
+    sink.byte(LINE_END);
 }

@@ -1,11 +1,13 @@
 //! The lines of rules.
-ghost use Rattle.std.specs.Prelude.{◌≡◌, [], ◌∷◌, ◌++◌, map};
-ghost use Rattle.rendering.specs.Texts.{ended, head_fields, letter, pair_text, rule_line, spaced};
-ghost use Rattle.writing.specs.Writes.{Wrote};
+ghost use Rattle.std.specs.Prelude.{◌≡◌, [], ◌∷◌, ◌++◌};
+ghost use Rattle.std.specs.List.{fold};
+ghost use Rattle.rendering.specs.Texts.{head_fields, letter, pair_text, rule_line, spaced};
 
+use crate::Text;
 use crate::field::{LINE_END, put_number};
+use crate::text::put_all;
 use rules::{Kind, Literal, Row};
-use writing::Writer;
+use writing::Sink;
 
 /// The first byte of a rule's line.
 fn first_byte(kind: Kind) -> u8
@@ -18,53 +20,40 @@ fn first_byte(kind: Kind) -> u8
     }
 }
 
-/// Writes what stands before a rule's pairs: of an activate rule its target, of a price rule its tier and cents.
-fn put_head(writer: &mut Writer, buffer: &mut [u8], row: &Row)
-    ensures { Wrote writer.old buffer.old (spaced (head_fields row.now.kind row.now.target row.now.price)) writer.new buffer.new }
+/// Puts what stands before a rule's pairs: of an activate rule its target, of a price rule its tier and cents.
+fn put_head<S: Sink>(sink: &mut S, row: &Row)
+    ensures { sink.new ≡ fold S.after sink.old (spaced (head_fields row.now.kind row.now.target row.now.price)) }
 {
     match row.kind {
         Kind::Forbid => {}
-        Kind::Activate => put_number(writer, buffer, row.target as u64),
+        Kind::Activate => put_number(sink, u64::from(row.target)),
         Kind::Price => {
-            put_number(writer, buffer, row.price.tier as u64);
-            put_number(writer, buffer, row.price.cents as u64);
+            put_number(sink, u64::from(row.price.tier));
+            put_number(sink, u64::from(row.price.cents));
         }
     }
 }
 
-/// Writes a space and a pair.
-fn put_pair(writer: &mut Writer, buffer: &mut [u8], pair: &Literal)
-    ensures { Wrote writer.old buffer.old (32 ∷ pair_text pair.now) writer.new buffer.new }
-{
-    put_number(writer, buffer, pair.decision as u64);
-    writer.byte(buffer, b'=');
-    writer.number(buffer, pair.value as u64);
-}
+impl Text for Literal {
+    ghost text = { λ l. 32 ∷ pair_text l };
 
-/// Writes pairs, a space in front of each.
-fn put_pairs(writer: &mut Writer, buffer: &mut [u8], pairs: &[Literal])
-    ensures { Wrote writer.old buffer.old (spaced (map pair_text pairs.now)) writer.new buffer.new }
-{
-    for pair in pairs {
-        put_pair(writer, buffer, pair);
+    /// A space and the pair.
+    #[tactic(auto, unfolding(crate::specs::Texts::pair_text))]
+    fn put<S: Sink>(&self, sink: &mut S) {
+        put_number(sink, u64::from(self.decision));
+        sink.byte(b'=');
+        sink.number(u64::from(self.value));
     }
 }
 
-/// Writes the line of a rule.
-fn put_rule(writer: &mut Writer, buffer: &mut [u8], row: &Row)
-    ensures { Wrote writer.old buffer.old (rule_line row.now ++ 10 ∷ []) writer.new buffer.new }
-{
-    writer.byte(buffer, first_byte(row.kind));
-    put_head(writer, buffer, row);
-    put_pairs(writer, buffer, row.condition());
-    writer.byte(buffer, LINE_END);
-}
+impl Text for Row {
+    ghost text = { λ r. rule_line r ++ 10 ∷ [] };
 
-/// Writes the lines of rules.
-pub fn put_rules(writer: &mut Writer, buffer: &mut [u8], rows: &[Row])
-    ensures { Wrote writer.old buffer.old (ended (map rule_line rows.now)) writer.new buffer.new }
-{
-    for row in rows {
-        put_rule(writer, buffer, row);
+    /// The rule's line.
+    fn put<S: Sink>(&self, sink: &mut S) {
+        sink.byte(first_byte(self.kind));
+        put_head(sink, self);
+        put_all(self.condition(), sink);
+        sink.byte(LINE_END);
     }
 }

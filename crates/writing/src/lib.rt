@@ -1,8 +1,11 @@
-//! Writing text into a caller's buffer, with a first pass that only measures.
+//! Writing text byte by byte, into what counts it or what keeps it.
 
 #![tactic(auto)]
 
-mod text;
-mod writer;
+mod counter;
+mod filler;
+mod sink;
 
-pub use writer::Writer;
+pub use counter::Counter;
+pub use filler::Filler;
+pub use sink::Sink;

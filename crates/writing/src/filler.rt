@@ -1,0 +1,33 @@
+//! A sink that keeps what comes.
+ghost use Rattle.std.specs.Prelude.{◌≡◌};
+ghost use Rattle.writing.specs.Sinks.{stored};
+
+use crate::Sink;
+
+/// A buffer that is filled from its start, and the place of the next byte. One that is full takes no more.
+#[derive(Drop)]
+pub struct Filler<'a> {
+    buffer: &'a mut [u8],
+    at: usize,
+}
+
+impl<'a> Filler<'a> {
+    /// A filler at the buffer's start.
+    pub fn new(buffer: &'a mut [u8]) -> Filler<'a>
+        ensures same { result.buffer ≡ buffer.entry }
+        ensures at_start { result.at ≡ 0 }
+    {
+        Filler { buffer, at: 0 }
+    }
+}
+
+impl<'a> Sink for Filler<'a> {
+    ghost after = { stored };
+
+    fn byte(&mut self, byte: u8) {
+        if self.at < self.buffer.len() {
+            self.buffer[self.at] = byte;
+            self.at += 1;
+        }
+    }
+}
