@@ -1,35 +1,12 @@
--- Sets that a loop gathers from the pairs of a condition, or from rows.
-use Rattle.std.proofs.Common.{◌≡◌, ℕ, zero, suc, ◌+◌, ◌<◌, Bool, true, false, cond, not, ◌&&◌, ◌||◌, eqb, ltb, List, [], ◌∷◌, length, get_or, drop, sym, refl, ap, ◌∙◌, ap₂, arith}
+-- Sets that a loop gathers from rows.
+use Rattle.std.proofs.Common.{◌≡◌, ℕ, ◌+◌, ◌<◌, Bool, true, false, cond, not, ◌&&◌, ◌||◌, List, ◌∷◌, length, get_or, drop, sym, refl, ap, ◌∙◌, ap₂}
 use mathlib.Core.Bool.{or_assoc}
 use Rattle.std.proofs.lemmas.List.{at_drop_more}
-use Rattle.std.proofs.lemmas.Bool.{and_parts, ltb-true, lt-ltb}
 use Rattle.account.specs.Steps.{kept, named_in}
 use Rattle.measure.specs.Meaning.{Meaning}
 use Rattle.rules.specs.Conditions.{Plan, condition, met, names}
-use Rattle.rules.specs.Judging.{known_decisions}
 use Rattle.rules.specs.Plans.{cost}
-use Rattle.rules.specs.declared.literal.Literal.{Literal}
 use Rattle.rules.specs.declared.row.Row.{Row}
-
--- a pair of a known condition names one of the first n decisions
-known_at : (n : ℕ) (ls : List Literal) (i : ℕ) (d : Literal) → i < length ls → known_decisions n ls ≡ true → (get_or ls i d).decision < n
-known_at n [] i d l h = absurd (omega arith)
-known_at n (k ∷ ks) zero d l h = ltb-true k.decision n (and_parts (ltb k.decision n) (known_decisions n ks) h).0
-known_at n (k ∷ ks) (suc i) d l h = known_at n ks i d (omega arith) (and_parts (ltb k.decision n) (known_decisions n ks) h).1
-
-regroup : (s e n : Bool) → ((s || (e && true)) || n) ≡ (s || (e || n))
-regroup true e n = refl
-regroup false true n = refl
-regroup false false n = refl
-
--- one pair more is gathered
-pub names_more : (ls : List Literal) (i : ℕ) (d : Literal) (s : Bool) (x : ℕ) → i < length ls → known_decisions 64 ls ≡ true
-    → ((s || (eqb x (get_or ls i d).decision && ltb (get_or ls i d).decision 64)) || names (drop (i + 1) ls) x) ≡ (s || names (drop i ls) x)
-names_more ls i d s x l known =
-    let low = lt-ltb (get_or ls i d).decision 64 (known_at 64 ls i d l known) in
-    ap (λ (t : Bool). (s || (eqb x (get_or ls i d).decision && t)) || names (drop (i + 1) ls) x) low
-    ∙ regroup s (eqb x (get_or ls i d).decision) (names (drop (i + 1) ls) x)
-    ∙ ap (λ (t : Bool). s || t) (sym (at_drop_more (λ (ks : List Literal). names ks x) ls i d l))
 
 module _ (p : Plan) (rs : List Row) (i : ℕ) (r : Row) (l : i < length rs) where
   module _ {C : Type 0} (m : Meaning C) (best before : C) where

@@ -2,4 +2,5 @@ pub mod Firsts
 pub mod Costs
 pub mod Gathered
 pub mod Enabling
+pub mod Naming
 pub mod Fits

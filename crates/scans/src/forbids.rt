@@ -10,6 +10,7 @@ use rules::Row;
 pub fn first_met<'a>(rows: &'a [Row], plan: &[u8]) -> Option<&'a Row>
     ensures { option_map (λ x. x.now) result ≡ first_met rows.now (from_bytes plan.now) }
 {
+    // Labelled loops, as this scan is to be written.
     'search: {
         'rows: for row in rows {
             let pairs = row.condition();

@@ -12,10 +12,7 @@ pub fn named(row: &Row) -> DecisionSet
     requires { known_decisions 64 (condition row.now) ≡ true }
     ensures { members result ≡ names (condition row.now) }
 {
-    let pairs = row.condition();
-    let mut set = DecisionSet::empty();
-    for pair in pairs {
-        set = set.with(pair.decision);
-    }
-    set
+    row.condition()
+        .iter()
+        .fold(DecisionSet::empty(), |set, pair| set.with(pair.decision))
 }

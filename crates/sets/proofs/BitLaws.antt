@@ -1,13 +1,14 @@
 -- The bits of a number, at any width: what the operations on numbers do to each bit.
-use Rattle.std.proofs.Common.{◌≡◌, ℕ, zero, suc, ◌+◌, ◌-◌, ◌*◌, ◌/◌, ◌%◌, ◌^◌, ◌<◌, Bool, ltb, true, false, cond, not, ◌&&◌, ◌||◌, eqb, ◌⊎◌, sym, refl, ap, ◌∙◌, ap₂, inl, inr, le_of_suc-le-suc, not-suc-le-zero, lt_of_le_of_lt, mod-lt, mod-eq_of_lt, add_comm, pow-suc, one-add, arith, pow_pos, shr-shr}
+use Rattle.std.proofs.Common.{◌≡◌, ℕ, zero, suc, ◌+◌, ◌-◌, ◌*◌, ◌/◌, ◌%◌, ◌^◌, ◌<◌, min, max, Bool, ltb, true, false, cond, not, ◌&&◌, ◌||◌, eqb, ◌⊎◌, sym, refl, ap, ◌∙◌, ap₂, inl, inr, le_of_suc-le-suc, not-suc-le-zero, lt_of_le_of_lt, mod-lt, mod-eq_of_lt, add_comm, pow-suc, one-add, arith, pow_pos, shr-shr}
 use mathlib.Core.Path.{fun_ext}
 use native.Mathlib.Nat.{mod-one}
 use lib.Bits.{bit_and, bit_or, and_le_l, and_mask, and_shr, or_shr, and_mod, or_mod}
 use lib.Count.{ones, ones_in, count_trailing_zeros, under, ones_cat, ones-ones}
 use lib.Dec.{eqb-suc-suc, eqb-suc-zero, eqb-zero-suc}
 use lib.Pow.{pow-lt, mod-pow-add}
-use Rattle.std.proofs.lemmas.Bool.{cases_lt, lt-ltb, le-ltb, eqb-true, ne_eqb, not-false, not_from_false, or_right}
-use Rattle.std.proofs.lemmas.Nat.Bits.{bit_at_ones, bit_at_ones_above}
+use Rattle.std.proofs.lemmas.Bool.{cases_eq, cases_lt, eq-eqb, lt-ltb, le-ltb, eqb-true, ne_eqb, not-false, not_from_false, or_right}
+use Rattle.std.proofs.lemmas.Nat.Bits.{bit_at_and, bit_at_or, bit_at-pow_same, bit_at-pow_other, bit_at_ones, bit_at_ones_above}
+use Rattle.std.proofs.lemmas.Bool.Decides.{nat_tests}
 use Rattle.sets.specs.Members.{bit}
 use Rattle.sets.specs.Searches.{some_below, count_outside}
 use Rattle.sets.proofs.BoolLaws.{or_failed}
@@ -43,41 +44,22 @@ pub bit_test : (n k : ℕ) → eqb (bit_and (n / 2 ^ k) 1) 1 ≡ bit n k
 unfolding bit
 bit_test n k = ap (λ (x : ℕ). eqb x 1) (and_mask (n / 2 ^ k) 1)
 
--- an operation on numbers that passes through shifts and low digits acts on each bit by its action on digits
-module _ (op : ℕ → ℕ → ℕ) (on : Bool → Bool → Bool)
-    (shift : (a b k : ℕ) → op a b / 2 ^ k ≡ op (a / 2 ^ k) (b / 2 ^ k))
-    (low : (a b k : ℕ) → op a b % 2 ^ k ≡ op (a % 2 ^ k) (b % 2 ^ k))
-    (digits : (x y : ℕ) → x < 2 → y < 2 → eqb (op x y) 1 ≡ on (eqb x 1) (eqb y 1)) where
-  -- a bit of such an operation
-  bit_by_bit : (a b k : ℕ) → bit (op a b) k ≡ on (bit a k) (bit b k)
-  unfolding bit
-  bit_by_bit a b k =
-      ap (λ (x : ℕ). eqb (x % 2) 1) (shift a b k) ∙ ap (λ (x : ℕ). eqb x 1) (low (a / 2 ^ k) (b / 2 ^ k) 1)
-      ∙ digits (a / 2 ^ k % 2) (b / 2 ^ k % 2) (omega arith) (omega arith)
+-- `|` and `&` on two digits
+or_digits : (x y : ℕ) → x < 2 → y < 2 → eqb (max x y) 1 ≡ (eqb x 1 || eqb y 1)
+or_digits x y hx hy = grind (arith, nat_tests)
 
--- `|` on two digits
-or_digits : (x y : ℕ) → x < 2 → y < 2 → eqb (bit_or x y) 1 ≡ (eqb x 1 || eqb y 1)
-or_digits zero y hx hy = refl
-or_digits (suc zero) zero hx hy = refl
-or_digits (suc zero) (suc zero) hx hy = refl
-or_digits (suc zero) (suc (suc y)) hx hy = not_digit hy
-or_digits (suc (suc x)) y hx hy = not_digit hx
-
--- `&` on two digits
-and_digits : (x y : ℕ) → x < 2 → y < 2 → eqb (bit_and x y) 1 ≡ (eqb x 1 && eqb y 1)
-and_digits zero y hx hy = refl
-and_digits (suc zero) zero hx hy = refl
-and_digits (suc zero) (suc zero) hx hy = refl
-and_digits (suc zero) (suc (suc y)) hx hy = not_digit hy
-and_digits (suc (suc x)) y hx hy = not_digit hx
+and_digits : (x y : ℕ) → x < 2 → y < 2 → eqb (min x y) 1 ≡ (eqb x 1 && eqb y 1)
+and_digits x y hx hy = grind (arith, nat_tests)
 
 -- a bit of `a | b`
 pub bit_or_lem : (a b k : ℕ) → bit (bit_or a b) k ≡ (bit a k || bit b k)
-bit_or_lem = bit_by_bit bit_or (λ x y. x || y) or_shr or_mod or_digits
+unfolding bit
+bit_or_lem a b k = ap (λ (x : ℕ). eqb x 1) (bit_at_or a b k) ∙ or_digits (a / 2 ^ k % 2) (b / 2 ^ k % 2) (omega arith) (omega arith)
 
 -- a bit of `a & b`
 pub bit_and_lem : (a b k : ℕ) → bit (bit_and a b) k ≡ (bit a k && bit b k)
-bit_and_lem = bit_by_bit bit_and (λ x y. x && y) and_shr and_mod and_digits
+unfolding bit
+bit_and_lem a b k = ap (λ (x : ℕ). eqb x 1) (bit_at_and a b k) ∙ and_digits (a / 2 ^ k % 2) (b / 2 ^ k % 2) (omega arith) (omega arith)
 
 -- zero has no bit
 pub bit_of_zero : (k : ℕ) → bit 0 k ≡ false
@@ -85,12 +67,12 @@ bit_of_zero k = bit_digit 0 k 0 (omega arith)
 
 -- a bit of `1 << d`
 pub bit_single : (d k : ℕ) → bit (2 ^ d) k ≡ eqb k d
-bit_single zero zero = bit_zero 1
-bit_single zero (suc k) = bit_suc 1 k ∙ bit_of_zero k ∙ sym (eqb-suc-zero k)
-bit_single (suc d) zero =
-    bit_digit (2 ^ suc d) 0 0 (omega (arith, pow-suc 2 d)) ∙ sym (eqb-zero-suc d)
-bit_single (suc d) (suc k) =
-    bit_suc (2 ^ suc d) k ∙ ap (λ (x : ℕ). bit x k) (omega (arith, pow-suc 2 d)) ∙ bit_single d k ∙ sym (eqb-suc-suc k d)
+unfolding bit
+bit_single d k =
+    elim (cases_eq k d) [
+      | inl e ↦ rw e (ap (λ (x : ℕ). eqb x 1) (bit_at-pow_same d) ∙ sym (eq-eqb d d refl))
+      | inr ne ↦ ap (λ (x : ℕ). eqb x 1) (bit_at-pow_other d k ne) ∙ sym (ne_eqb k d ne)
+    ]
 
 -- a bit of `!n` at a width
 pub bit_complement : (w n k : ℕ) → n < 2 ^ w → k < w → bit (2 ^ w - 1 - n) k ≡ not (bit n k)
@@ -146,10 +128,6 @@ some_low_bit (suc w) n =
 -- a number of some width is not 0 where some bit below the width is set
 pub some_bit : (w n : ℕ) → n < 2 ^ w → some_below (bit n) w ≡ not (eqb n 0)
 some_bit w n h = some_low_bit w n ∙ ap (λ (x : ℕ). not (eqb x 0)) (mod-eq_of_lt h)
-
--- a number of some width with no bit below the width is 0
-pub no_bits : (w n : ℕ) → n < 2 ^ w → ((k : ℕ) → k < w → bit n k ≡ false) → n ≡ 0
-no_bits w n h none = eqb-true n 0 (not-false (eqb n 0) (sym (some_bit w n h) ∙ some_below_none (bit n) w none))
 
 -- `a & b` is not 0 where some bit is set in both
 pub common_bit : (w a b : ℕ) → a < 2 ^ w → some_below (λ k. bit a k && bit b k) w ≡ not (eqb (bit_and a b) 0)
