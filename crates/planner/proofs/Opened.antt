@@ -1,15 +1,11 @@
 -- The decisions of a book.
-use Rattle.std.proofs.Common.{◌≡◌, ℕ, zero, suc, ◌-◌, ◌≤◌, true, not, ltb, leb, List, [], ◌∷◌, ◌++◌, length, take, drop, None, ap, ◌∙◌, arith, length-append, length-drop, length-take}
-use lib.Seq.{take-append-le, take-length}
+use Rattle.std.proofs.Common.{◌≡◌, ℕ, zero, suc, ◌≤◌, true, not, ltb, leb, List, [], ◌∷◌, length, None, arith}
 use Rattle.std.proofs.lemmas.Bool.{not-false, and_parts, leb-true}
 use Rattle.rules.proofs.Grounds.{when_none, or_else_none}
-use Rattle.rules.proofs.Verdicts.{accepted_few}
 use Rattle.rules.specs.Judging.{open_refusal, has_size, sized}
 use Rattle.rules.specs.Plans.{size_at}
 use Rattle.rules.specs.Refusals.{when}
 use Rattle.rules.specs.declared.decision.Decision.{Decision}
-use Rattle.planner.specs.Books.{book_of}
-use Rattle.planner.specs.declared.book.Book.{Book}
 use Rattle.rules.specs.declared.refusal.Refusal.TheVariants.{TooManyDecisions, SizeOutOfRange}
 
 -- accepted decisions have 1 to 16 values

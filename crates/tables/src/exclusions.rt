@@ -13,6 +13,7 @@ use sets::{DecisionSet, ValueSet};
 /// For each of 64 decisions its excluded values, which of them rest on the best, and the reason of each: that of value
 /// `v` of decision `d` stands at `16 * d + v - 1`, as the bits of a set of decisions.
 #[derive(Drop)]
+// Three arrays side by side: sets of 16 bits and one table of words of 64 bits are the form that is wanted here.
 pub struct Exclusions {
     excluded: [ValueSet; 64],
     resting: [ValueSet; 64],
@@ -150,6 +151,7 @@ impl Exclusions {
     fn retain(&mut self, barred: DecisionSet, resting: bool)
         ensures { exclusions_of self.new ≡ (λ d v. keep_if (spared (members barred) resting) (exclusions_of self.old d v)) }
     {
+        // By number: `spared_values` reads all three arrays, so none of them can be lent for writing meanwhile.
         for d in 0..64u8 {
             let at = d as usize;
             if self.excluded[at].bits != 0 {

@@ -1,5 +1,5 @@
 //! The trail of a planner: its choices so far.
-ghost use Rattle.std.specs.Prelude.{◌≡◌, ℕ, true, length, slice_index};
+ghost use Rattle.std.specs.Prelude.{◌≡◌, ℕ, true, slice_index};
 ghost use Rattle.account.specs.Accounts.{chosen};
 ghost use Rattle.tables.specs.Entries.{newest_first, proper};
 
@@ -15,7 +15,6 @@ pub struct Trail {
     entries: ArrayVec<Entry, 64>,
     /// Kept beside the entries, since every step reads the plan.
     values: [u8; 64],
-    ghost wide: { length values ≡ 64 },
     ghost distinct: { proper (newest_first entries.items) ≡ true },
     ghost planned: { ((d : ℕ) → slice_index values d ≡ chosen (newest_first entries.items) d) },
 }

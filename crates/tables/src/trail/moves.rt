@@ -78,7 +78,6 @@ impl Trail {
 /// and what leaves has the value 0. Answers how many stay, and the decisions that left.
 fn sweep(entries: &mut [Entry], values: &mut [u8; 64], at: usize) -> (usize, DecisionSet)
     requires within { at < length entries.old }
-    requires wide { length values.old ≡ 64 }
     requires distinct { proper (newest_first entries.old) ≡ true }
     ensures few { result.0 ≤ length entries.old }
     ensures after { Sweeping entries.old values.old (swept entries.old at (length entries.old - (at + 1))) entries.new values.new result.0 (members result.1) }

@@ -1,4 +1,4 @@
-use Rattle.std.proofs.Common.{List, ap, arith}
+use Rattle.std.proofs.Common.{arith}
 use Rattle.planner.proofs.Opened.{sized_at}
 use Rattle.planner.proofs.book.Book.domain.Goals as goal
 

@@ -20,7 +20,7 @@ invariant_of-self c =
     let h = rw c.as_mut_slice.ensures.value at c.sweep-count.ensures.after in
     let few = rw c.as_mut_slice.ensures.value at c.sweep-count.ensures.few in
     let stays = c.truncate.ensures.items ∙ ap (take c.sweep-count.result.0) (items-with_items t.entries c.sweep-count.new.entries h.full) in
-    rw stays (record { wide = h.wide; distinct = sweep_proper s es place l t.distinct h few; planned = sweep_planned s es place l t.distinct h few t.planned })
+    rw stays (record { distinct = sweep_proper s es place l t.distinct h few; planned = sweep_planned s es place l t.distinct h few t.planned })
 
 pub returns : goal.returns
 returns c =

@@ -55,6 +55,6 @@ returns c =
       after =
           subst P done
           (c.loop-i.invariant.4 vs
-          (sweep_begins es vs c.args.at (members c.empty.result) (members c.with-left.result) c.requires.wide
+          (sweep_begins es vs c.args.at (members c.empty.result) (members c.with-left.result) (omega arith)
           (entry_proper es (length es) c.args.at c.requires.distinct c.requires.within).0.known c.empty.ensures c.with-left.ensures));
     }
