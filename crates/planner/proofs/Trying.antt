@@ -1,7 +1,7 @@
 -- The tests of a decision's values, as code makes them.
-use Rattle.std.proofs.Common.{◌≡◌, ℕ, ◌+◌, ◌-◌, ◌<◌, ◌≤◌, Bool, true, false, cond, not, ◌&&◌, eqb, leb, ◌⊎◌, List, [], ◌∷◌, length, get_or, set, is_some, Some, None, Option, sym, refl, ap, ◌∙◌, ap₂, inl, inr, ⊎_elim, arith, get_or-set_other, get_or-set_same}
+use Rattle.std.proofs.Common.{◌≡◌, ℕ, ◌+◌, ◌-◌, ◌<◌, ◌≤◌, Bool, true, false, cond, not, ◌&&◌, eqb, leb, List, [], ◌∷◌, length, get_or, set, Some, None, Option, sym, refl, ap, ◌∙◌, ap₂, ⊎_elim, arith, get_or-set_other, get_or-set_same}
 use mathlib.Core.Path.{fun_ext}
-use Rattle.std.proofs.lemmas.Bool.{cases_eq, cases_lt, eq-eqb, ne_eqb, le-leb, lt-leb, and_left, and_right, false≢true}
+use Rattle.std.proofs.lemmas.Bool.{cases_eq, cases_lt, eq-eqb, ne_eqb, le-leb, lt-leb, and_left, and_right}
 use Rattle.account.specs.Accounts.{Exclusion, except}
 use Rattle.account.specs.Steps.{by_forbid, choose, first_met, is_value, kept, named_in, reaches}
 use Rattle.measure.specs.Meaning.{Meaning}
@@ -11,9 +11,6 @@ use Rattle.rules.specs.Plans.{Book, Set, cost}
 use Rattle.rules.specs.Refusals.{or_else, when}
 use Rattle.rules.specs.declared.row.Row.{Row}
 use Rattle.scans.specs.Known.{Known}
-use Rattle.sets.specs.Members.{members}
-use Rattle.sets.specs.declared.decision_set.DecisionSet.{DecisionSet}
-use Rattle.tables.specs.Excluded.{as_exclusion}
 use Rattle.planner.specs.Trials.{by_cost, or_tried, tried_to, try_plan}
 
 -- the first met row names known decisions
@@ -35,12 +32,6 @@ module _ {C : Type 0} (m : Meaning C) (b : Book) (d : ℕ) (p : Plan) where
       ∙ ap (λ (t : Bool). when t (record { reason = except (named_in (kept m best m.neutral b.prices p)) d; rests = true }))
       (h ∙ ap (reaches m best) (e ∙ ap (λ (xs : List Row). cost m xs p) r))
 
-  -- the cost is not reached
-  pub cost_miss : (best c : C) (rs : List Row) → rs ≡ b.prices → c ≡ cost m rs p → false ≡ reaches m best c → None ≡ by_cost m b d p (Some best)
-  cost_miss best c rs r e h =
-      ap (λ (t : Bool). when t (record { reason = except (named_in (kept m best m.neutral b.prices p)) d; rests = true }))
-      (h ∙ ap (reaches m best) (e ∙ ap (λ (xs : List Row). cost m xs p) r))
-
   -- a forbid rule is met
   pub forbid_hit : (best : Option C) (rs : List Row) (r : Row) (row s : Set) → rs ≡ b.forbids → Some r ≡ first_met rs p → row ≡ names (condition r) → s ≡ (λ (x : ℕ). row x && not (eqb x d))
       → Some (record { reason = s; rests = false }) ≡ try_plan m b best d p
@@ -54,59 +45,10 @@ module _ {C : Type 0} (m : Meaning C) (b : Book) (d : ℕ) (p : Plan) where
   unfolding try_plan
   forbid_miss best rs same h = ap (λ (o : Option Row). or_else (by_forbid d o) (by_cost m b d p best)) (h ∙ ap (λ (xs : List Row). first_met xs p) same)
 
--- what a look-up that found something, or nothing, tells
-pub some_exclusion : (o : Option (DecisionSet × Bool)) (x : Option Exclusion) → is_some o ≡ true → as_exclusion o ≡ x → (e : Exclusion) × (x ≡ Some e)
-some_exclusion (Some y) x h k = (record { reason = members y.0; rests = y.1 }, sym k)
-some_exclusion None x h k = absurd (false≢true h)
-
-pub none_exclusion : (o : Option (DecisionSet × Bool)) (x : Option Exclusion) → is_some o ≡ false → as_exclusion o ≡ x → x ≡ None
-none_exclusion (Some y) x h k = absurd (false≢true (sym h))
-none_exclusion None x h k = sym k
-
 -- what is not asked stays
 not_asked : (o t : Option Exclusion) → o ≡ or_tried o false t
 not_asked (Some e) t = refl
 not_asked None t = refl
-
-only_some : (o t : Option Exclusion) (asked : Bool) (e : Exclusion) → o ≡ Some e → o ≡ or_tried o asked t
-only_some o t asked e h = h ∙ ap (λ (x : Option Exclusion). or_tried x asked t) (sym h)
-
-asked_none : (o t : Option Exclusion) → o ≡ None → t ≡ or_tried o true t
-asked_none o t h = ap (λ (x : Option Exclusion). or_tried x true t) (sym h)
-
-module _ (ex : ℕ → ℕ → Option Exclusion) (d v : ℕ) (t : Option Exclusion) where
-  at_value : (x w : ℕ) → ((x ≡ d) × (w ≡ v)) ⊎ ((eqb x d && eqb w v) ≡ false)
-  at_value x w =
-      ⊎_elim (λ (e : x ≡ d). ⊎_elim (λ (f : w ≡ v). inl (e, f)) (λ (ne : w ≡ v → ⊥). inr (and_right (eqb x d) (eqb w v) (ne_eqb w v ne))) (cases_eq w v))
-      (λ (ne : x ≡ d → ⊥). inr (and_left (eqb x d) (eqb w v) (ne_eqb x d ne))) (cases_eq x d)
-
-  here : (eqb d d && eqb v v) ≡ true
-  here = rw (eq-eqb d d refl, eq-eqb v v refl) refl
-
-  -- a value that is excluded already
-  pub tried_already : (e : Exclusion) → ex d v ≡ Some e → ex ≡ (λ (x w : ℕ). or_tried (ex x w) (eqb x d && eqb w v) t)
-  tried_already e h =
-      fun_ext (λ (x : ℕ). fun_ext (λ (w : ℕ).
-      ⊎_elim (λ (q : (x ≡ d) × (w ≡ v)). only_some (ex x w) t (eqb x d && eqb w v) e (rw (q.0, q.1) h))
-      (λ (q : (eqb x d && eqb w v) ≡ false). not_asked (ex x w) t ∙ ap (λ (b : Bool). or_tried (ex x w) b t) (sym q)) (at_value x w)))
-
-  -- a value that passes
-  pub tried_free : ex d v ≡ None → t ≡ None → ex ≡ (λ (x w : ℕ). or_tried (ex x w) (eqb x d && eqb w v) t)
-  tried_free h f =
-      fun_ext (λ (x : ℕ). fun_ext (λ (w : ℕ).
-      ⊎_elim
-      (λ (q : (x ≡ d) × (w ≡ v)).
-      rw (q.0, q.1) (h ∙ sym f ∙ asked_none (ex d v) t h ∙ ap (λ (b : Bool). or_tried (ex d v) b t) (sym here)))
-      (λ (q : (eqb x d && eqb w v) ≡ false). not_asked (ex x w) t ∙ ap (λ (b : Bool). or_tried (ex x w) b t) (sym q)) (at_value x w)))
-
-  -- a value that fails
-  pub tried_put : (e : Exclusion) → ex d v ≡ None → t ≡ Some e → ◌≡◌ {A = ℕ → ℕ → Option Exclusion} (λ x w. cond (eqb x d && eqb w v) (Some e) (ex x w)) (λ x w. or_tried (ex x w) (eqb x d && eqb w v) t)
-  tried_put e h f =
-      fun_ext (λ (x : ℕ). fun_ext (λ (w : ℕ).
-      ⊎_elim
-      (λ (q : (x ≡ d) × (w ≡ v)).
-      rw (q.0, q.1, here) (sym f ∙ asked_none (ex d v) t h))
-      (λ (q : (eqb x d && eqb w v) ≡ false). rw q (not_asked (ex x w) t)) (at_value x w)))
 
 -- values up to n, and one more
 value_none : (w : ℕ) → is_value 0 w ≡ false

@@ -1,7 +1,7 @@
 //! What price rules cost, from each place on, and which of them are kept.
-ghost use Rattle.std.specs.Prelude.{◌≡◌, ◌≤◌, not, ◌&&◌, length};
+ghost use Rattle.std.specs.Prelude.{◌≡◌, ◌≤◌, [], not, ◌&&◌, length};
 ghost use Rattle.account.specs.Steps.{kept, named_in};
-ghost use Rattle.rules.specs.Conditions.{from_bytes, met};
+ghost use Rattle.rules.specs.Conditions.{Plan, from_bytes, met};
 ghost use Rattle.rules.specs.Plans.{cost};
 ghost use Rattle.sets.specs.Members.{members};
 ghost use Rattle.scans.specs.Known.{Known};
@@ -20,7 +20,9 @@ pub struct SuffixCosts<M> {
 
 impl<M: Measure> SuffixCosts<M> {
     /// What no rules cost.
-    pub fn new() -> SuffixCosts<M> {
+    pub fn new() -> SuffixCosts<M>
+        ensures { (p : Plan) → Suffixes M.meaning [] p result.after 0 }
+    {
         SuffixCosts {
             after: [M::neutral(); 257],
         }

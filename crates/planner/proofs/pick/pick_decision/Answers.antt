@@ -1,14 +1,10 @@
-use Rattle.std.proofs.Common.{◌≡◌, ◌<◌, length, ap, ◌∙◌, arith}
-use Rattle.account.specs.Steps.{pick, waits}
+use Rattle.std.proofs.Common.{◌<◌, arith}
+use Rattle.account.specs.Steps.{waits}
 use Rattle.rules.specs.Conditions.{from_bytes}
 use Rattle.sets.specs.Members.{members}
 use Rattle.planner.specs.Books.{book_of}
 use Rattle.planner.proofs.Picks.{waiting_is, picked_more, picked_low}
 use Rattle.planner.proofs.pick.pick_decision.Goals as goal
-
-pub preferred-picked-requires : goal.preferred-picked-requires
-preferred-picked-requires c =
-    record { known = omega (arith, c.decisions-decisions.ensures.few); low = c.loop-i.invariant.1 }
 
 pub loop-i-preserved : goal.loop-i-preserved
 loop-i-preserved c =
@@ -23,9 +19,3 @@ loop-i-preserved c =
       picked_more ranks (waits b p) i c.loop-i.picked c.preferred-picked.result c.is_waiting-waiting.result waits-here c.loop-i.invariant.0 c.preferred-picked.ensures,
       picked_low ranks c.is_waiting-waiting.result i 64 c.loop-i.picked c.preferred-picked.result c.preferred-picked.ensures low c.loop-i.invariant.1,
     )
-
-pub returns : goal.returns
-returns c =
-    let b = book_of c.args.book.now in
-    let all : c.loop-i.i ≡ length c.decisions-decisions.result.now = omega arith in
-    c.loop-i.invariant.0 ∙ ap (pick (from_bytes c.args.ranks.now) (waits b (from_bytes c.args.plan.now))) (all ∙ ap length c.decisions-decisions.ensures.value)

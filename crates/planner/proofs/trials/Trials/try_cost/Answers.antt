@@ -1,13 +1,8 @@
 use Rattle.rules.specs.Conditions.{from_bytes}
 use Rattle.sets.specs.Members.{members}
 use Rattle.planner.specs.Books.{book_of}
-use Rattle.planner.proofs.Trying.{cost_hit, cost_miss}
+use Rattle.planner.proofs.Trying.{cost_hit}
 use Rattle.planner.proofs.trials.Trials.try_cost.Goals as goal
-
-pub returns-then-not-reaches : goal.returns-then-not-reaches
-returns-then-not-reaches g c =
-    cost_miss g.M.Measure.meaning (book_of c.args.self.now.book.now) c.args.self.now.domain.decision (from_bytes c.args.plan.now) c.args.best c.fill-cost.result c.rows-rows.result.now c.rows-rows.ensures.value
-    c.fill-cost.ensures.total c.if-not-reaches.ensures
 
 pub returns : goal.returns
 returns g c =

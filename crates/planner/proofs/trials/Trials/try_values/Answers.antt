@@ -30,12 +30,6 @@ loop-v-preserved g c =
           (exclusions_of c.loop-v.exclusions) (exclusions_of c.try_value.new.exclusions) c.loop-v.auto.v (but_choose c.loop-v.trial c.args.plan.now d v room inv.but) inv.tried c.try_value.ensures;
     }
 
-pub returns : goal.returns
-returns g c =
-    let all : c.loop-v.v - 1 ≡ c.args.self.now.domain.size = omega arith in
-    c.loop-v.invariant.tried
-    ∙ ap (tried_to g.M.Measure.meaning (book_of c.args.self.now.book.now) c.args.self.now.best (from_bytes c.args.plan.now) (exclusions_of c.args.exclusions.now) c.args.self.now.domain.decision) all
-
 pub returns-2 : goal.returns-2
 returns-2 g c =
     let d = c.args.self.now.domain.decision in

@@ -12,14 +12,6 @@ use Rattle.scans.proofs.Gathered.{gather_kept, skip_spared}
 use Rattle.scans.proofs.prices.SuffixCosts.kept_named.Goals as goal
 use Rattle.scans.proofs.prices.SuffixCosts.kept_named.Goals.{then-is_kept, else-is_kept}
 
-pub named-requires : goal.named-requires
-named-requires g c = All-get_or (λ r. known_decisions 64 (condition r) ≡ true) c.args.rows.now c.loop-i.i _ c.loop-i-test.true c.requires.known
-
-pub loop-i-init : goal.loop-i-init
-loop-i-init g c x =
-    let m = g.M.Measure.meaning in
-    ap₂ (λ (s : ℕ → Bool) b. s x || named_in (kept m c.args.best b c.args.rows.now (from_bytes c.args.plan.now)) x) c.empty-set.ensures c.neutral-before.ensures
-
 pub loop-i-preserved : goal.loop-i-preserved
 loop-i-preserved g c x =
     let m = g.M.Measure.meaning in
