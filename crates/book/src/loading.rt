@@ -23,8 +23,11 @@ fn load_line<M: Measure>(planner: &mut Planner<M>, line: &Line, began: bool) -> 
     ensures { on_ok (λ t. (t, account_of planner.new)) result ≡ line_step M.meaning began (account_of planner.old) (line_of line.now) }
 {
     let statement = read_line(line, began)?;
-    carry_out(planner, &statement).map_err(|refusal| Fault::at_line(refusal, line.number))?;
-    Ok(has_begun(began, &statement))
+    // A match: with `map_err` and `?` the proof did not close.
+    match carry_out(planner, &statement) {
+        Ok(()) => Ok(has_begun(began, &statement)),
+        Err(refusal) => Err(Fault::at_line(refusal, line.number)),
+    }
 }
 
 /// Reads the lines of a text and carries them out, up to the first fault.

@@ -1,4 +1,4 @@
-use Rattle.std.proofs.Common.{◌≡◌, sym, ap, ◌∙◌}
+use Rattle.std.proofs.Common.{◌≡◌, Err, sym, ap, ◌∙◌}
 use Rattle.planner.specs.Planners.{account_of}
 use Rattle.statements.specs.Views.{on_ok}
 use Rattle.book.specs.Loads.{left_by, loaded, verdict}
@@ -10,7 +10,7 @@ use Rattle.book.proofs.loading.load.Goals as goal
 pub returns-then-text-gt-MOST_BYTES : goal.returns-then-text-gt-MOST_BYTES
 returns-then-text-gt-MOST_BYTES g c =
     let large = too_large g.M.Measure.meaning c.args.text.now c.if-text-gt-MOST_BYTES.true in
-    record { value = sym (ap verdict large); after = c.clear.ensures ∙ sym (ap left_by large); stated = read_as_stated g.M.Measure.meaning c.args.text.now; agrees = agrees g.M.Measure.meaning c.args.text.now }
+    record { value = ap Err c.at_line.ensures ∙ sym (ap verdict large); after = c.clear.ensures ∙ sym (ap left_by large); stated = read_as_stated g.M.Measure.meaning c.args.text.now; agrees = agrees g.M.Measure.meaning c.args.text.now }
 
 pub returns-then-is_err : goal.returns-then-is_err
 returns-then-is_err g c =

@@ -18,5 +18,6 @@ returns-in-Ok g c =
 
 pub returns-in-Err : goal.returns-in-Err
 returns-in-Err g c =
-    sym
+    ap Err c.at_line.ensures
+    ∙ sym
     (line_refused g.M.Measure.meaning c.args.began (account_of c.args.planner.now) (line_of c.args.line.now) (stated_of c.in_ok-statement.statement) c.in-Err.refusal c.in_ok-statement.ensures c.in-Err.ensures.value)
