@@ -10,6 +10,7 @@ mod literal;
 mod refusal;
 mod row;
 mod rule;
+mod shown;
 #[cfg(test)]
 mod tests;
 mod verdict;
