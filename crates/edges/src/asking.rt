@@ -1,35 +1,21 @@
 //! Runs, buffers and questions at their edges.
-use crate::shown::{Bytes, Done, word};
+use calling::run;
 use measure::Cents;
 use planner::Planner;
+use showing::{Answer, Spaced, done};
 use std::io;
-
-/// Runs with a budget.
-fn run(rt: &impl Print, planner: &mut Planner<Cents>, budget: u32) -> io::Result<()> {
-    match planner.run(budget) {
-        Ok((made, state)) => {
-            let state = word(state);
-            println!(rt; "run {budget}: {made} made, {state}")
-        }
-        Err(refusal) => println!(rt; "run {budget}: {}", Done(Err(refusal))),
-    }
-}
 
 /// Asks for the best with a buffer, and prints what the buffer then holds.
 fn best(rt: &impl Print, planner: &Planner<Cents>, buffer: &mut [u8]) -> io::Result<()> {
     let length = buffer.len();
     let answer = planner.best(buffer);
-    let bytes = Bytes(buffer);
+    let bytes = Spaced(buffer);
     match answer {
         Ok((state, Some(cost))) => {
-            let state = word(state);
-            println!(rt; "best into {length}: {state}, cost {}, {bytes}", cost.sum)
+            println!(rt; "best into {length}: {state}, cost {cost}, [{bytes}]")
         }
-        Ok((state, None)) => {
-            let state = word(state);
-            println!(rt; "best into {length}: {state}, none, {bytes}")
-        }
-        Err(refusal) => println!(rt; "best into {length}: {}, {bytes}", Done(Err(refusal))),
+        Ok((state, None)) => println!(rt; "best into {length}: {state}, none, [{bytes}]"),
+        Err(refusal) => println!(rt; "best into {length}: {refusal}, [{bytes}]"),
     }
 }
 
@@ -60,16 +46,13 @@ fn exclusion(rt: &impl Print, planner: &Planner<Cents>, d: u8, value: u8) -> io:
             println!(rt; "exclusion {d}={value}: reason bits {bits}, resting {resting}")
         }
         Ok(None) => println!(rt; "exclusion {d}={value}: none"),
-        Err(refusal) => println!(rt; "exclusion {d}={value}: {}", Done(Err(refusal))),
+        Err(refusal) => println!(rt; "exclusion {d}={value}: {refusal}"),
     }
 }
 
 /// Asks how many values of a decision are not excluded.
 fn unexcluded(rt: &impl Print, planner: &Planner<Cents>, d: u8) -> io::Result<()> {
-    match planner.unexcluded(d) {
-        Ok(count) => println!(rt; "unexcluded of {d}: {count}"),
-        Err(refusal) => println!(rt; "unexcluded of {d}: {}", Done(Err(refusal))),
-    }
+    println!(rt; "unexcluded of {d}: {}", Answer(planner.unexcluded(d)))
 }
 
 /// Exclusions of values that there are and are not.
@@ -89,7 +72,7 @@ pub fn questions(rt: &impl Print, planner: &Planner<Cents>) -> io::Result<()> {
 
 /// Sets the rank of a decision.
 fn rank(rt: &impl Print, planner: &mut Planner<Cents>, decision: u8, rank: u8) -> io::Result<()> {
-    let answer = Done(planner.rank(decision, rank));
+    let answer = done(planner.rank(decision, rank));
     println!(rt; "rank {decision} {rank}: {answer}")
 }
 

@@ -1,10 +1,11 @@
 //! Tables of rules at their fullest.
-use crate::shown::Done;
-use crate::trouble::Trouble;
+use calling::{add, withdraw_price};
 use measure::{Cents, Price};
 use planner::Planner;
-use rules::{Decision, Kind, Literal, Refusal, Rule};
+use rules::{Decision, Kind, Refusal, Rule};
+use showing::{Trouble, done};
 use std::io;
+use worked::{pair, rule};
 
 /// A decision of 2 values that is on, and one of 1 that is off.
 const DECISIONS: [Decision; 2] = [
@@ -19,16 +20,14 @@ const DEAR: Price = Price {
 };
 
 /// The rule of a kind with one pair; its target, if it has one, is decision 1.
-fn rule(kind: Kind, decision: u8, value: u8) -> Result<Rule, Refusal> {
-    let mut rule = Rule::new();
-    rule.compose(kind, &[Literal { decision, value }], 1, DEAR)?;
-    Ok(rule)
+fn dear(kind: Kind, decision: u8, value: u8) -> Result<Rule, Refusal> {
+    rule(kind, &[pair(decision, value)], 1, DEAR)
 }
 
 /// Adds a rule 257 times, and prints the last two answers.
 fn fill(rt: &impl Print, planner: &mut Planner<Cents>, what: &str, rule: &Rule) -> io::Result<()> {
     for time in 1..=257u32 {
-        let answer = Done(planner.add(rule));
+        let answer = done(planner.add(rule));
         if time > 255 {
             println!(rt; "add {what}, time {time}: {answer}")?;
         }
@@ -36,47 +35,35 @@ fn fill(rt: &impl Print, planner: &mut Planner<Cents>, what: &str, rule: &Rule) 
     Ok(())
 }
 
-/// Adds a rule once.
-fn add(rt: &impl Print, planner: &mut Planner<Cents>, what: &str, rule: &Rule) -> io::Result<()> {
-    let answer = Done(planner.add(rule));
-    println!(rt; "add {what}: {answer}")
-}
-
-/// Withdraws the price rule at a place.
-fn withdraw(rt: &impl Print, planner: &mut Planner<Cents>, place: usize) -> io::Result<()> {
-    let answer = Done(planner.withdraw(Kind::Price, place));
-    println!(rt; "withdraw price {place}: {answer}")
-}
-
 /// Fills the table of each kind.
 pub fn fillings(rt: &impl Print, planner: &mut Planner<Cents>) -> Result<(), Trouble> {
     planner.open(&DECISIONS)?;
-    fill(rt, planner, "forbid", &rule(Kind::Forbid, 0, 2)?)?;
-    fill(rt, planner, "activate", &rule(Kind::Activate, 0, 1)?)?;
-    fill(rt, planner, "price", &rule(Kind::Price, 1, 1)?)?;
+    fill(rt, planner, "forbid", &dear(Kind::Forbid, 0, 2)?)?;
+    fill(rt, planner, "activate", &dear(Kind::Activate, 0, 1)?)?;
+    fill(rt, planner, "price", &dear(Kind::Price, 1, 1)?)?;
     Ok(())
 }
 
 /// Adds and withdrawals where the table of prices is full, and then lacks one.
 pub fn overflows(rt: &impl Print, planner: &mut Planner<Cents>) -> Result<(), Trouble> {
-    let price = rule(Kind::Price, 1, 1)?;
+    let price = dear(Kind::Price, 1, 1)?;
     add(
         rt,
         planner,
         "price of an unknown decision",
-        &rule(Kind::Price, 2, 1)?,
+        &dear(Kind::Price, 2, 1)?,
     )?;
-    add(rt, planner, "price of value 0", &rule(Kind::Price, 1, 0)?)?;
+    add(rt, planner, "price of value 0", &dear(Kind::Price, 1, 0)?)?;
     add(
         rt,
         planner,
         "price of value 2 of 1",
-        &rule(Kind::Price, 1, 2)?,
+        &dear(Kind::Price, 1, 2)?,
     )?;
-    withdraw(rt, planner, 256)?;
-    withdraw(rt, planner, usize::MAX)?;
-    withdraw(rt, planner, 255)?;
-    withdraw(rt, planner, 255)?;
+    withdraw_price(rt, planner, 256)?;
+    withdraw_price(rt, planner, usize::MAX)?;
+    withdraw_price(rt, planner, 255)?;
+    withdraw_price(rt, planner, 255)?;
     add(rt, planner, "price in its stead", &price)?;
     add(rt, planner, "price once more", &price)?;
     Ok(())

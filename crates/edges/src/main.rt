@@ -3,13 +3,11 @@
 
 use measure::Cents;
 use planner::Planner;
-use trouble::Trouble;
+use showing::Trouble;
 
 mod asking;
 mod filling;
 mod openings;
-mod shown;
-mod trouble;
 
 fn main(rt: HostRuntime) -> Result<(), Trouble> {
     let mut planner = Planner::<Cents>::new();

@@ -1,8 +1,9 @@
 //! Openings and rules at the edges of what is accepted.
-use crate::shown::Done;
+use calling::open;
 use measure::{Cents, Price};
 use planner::Planner;
 use rules::{Decision, Kind, Literal, Rule};
+use showing::done;
 use std::io;
 
 /// A decision of one value.
@@ -18,28 +19,17 @@ fn first_of(decision: u8) -> Literal {
     Literal { decision, value: 1 }
 }
 
-/// Opens over decisions.
-fn open(
-    rt: &impl Print,
-    planner: &mut Planner<Cents>,
-    what: &str,
-    decisions: &[Decision],
-) -> io::Result<()> {
-    let answer = Done(planner.open(decisions));
-    println!(rt; "open with {what}: {answer}")
-}
-
 /// Openings with many decisions, and with sizes small and large.
 pub fn openings(rt: &impl Print, planner: &mut Planner<Cents>) -> io::Result<()> {
-    open(rt, planner, "0 decisions", &[])?;
-    open(rt, planner, "64 decisions", &[ONE; 64])?;
-    open(rt, planner, "65 decisions", &[ONE; 65])?;
-    open(rt, planner, "size 0", &[sized(0)])?;
-    open(rt, planner, "size 1", &[sized(1)])?;
-    open(rt, planner, "size 16", &[sized(16)])?;
-    open(rt, planner, "size 17", &[sized(17)])?;
-    open(rt, planner, "sizes 16 and 17", &[sized(16), sized(17)])?;
-    open(rt, planner, "65 of size 17", &[sized(17); 65])
+    open(rt, planner, "with 0 decisions", &[])?;
+    open(rt, planner, "with 64 decisions", &[ONE; 64])?;
+    open(rt, planner, "with 65 decisions", &[ONE; 65])?;
+    open(rt, planner, "with size 0", &[sized(0)])?;
+    open(rt, planner, "with size 1", &[sized(1)])?;
+    open(rt, planner, "with size 16", &[sized(16)])?;
+    open(rt, planner, "with size 17", &[sized(17)])?;
+    open(rt, planner, "with sizes 16 and 17", &[sized(16), sized(17)])?;
+    open(rt, planner, "with 65 of size 17", &[sized(17); 65])
 }
 
 /// Composes a rule.
@@ -51,7 +41,7 @@ fn compose(
     cents: u32,
 ) -> io::Result<()> {
     let mut rule = Rule::new();
-    let answer = Done(rule.compose(kind, pairs, 0, Price { tier: 255, cents }));
+    let answer = done(rule.compose(kind, pairs, 0, Price { tier: 255, cents }));
     println!(rt; "compose {what}: {answer}")
 }
 

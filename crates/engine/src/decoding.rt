@@ -1,36 +1,30 @@
 //! Reading a book of bytes into a planner.
 use crate::fault::Fault;
+use arrayvec::ArrayVec;
 use measure::{Cents, Price};
 use planner::Planner;
 use rules::{Decision, Kind, Literal, Rule};
 
-/// No decision: what stands behind the last.
-const ABSENT: Decision = Decision { size: 0, on: false };
-
-/// The byte at a place, 0 past the end.
-fn byte(bytes: &[u8], at: usize) -> u8 {
-    if at < bytes.len() { bytes[at] } else { 0 }
-}
-
-/// The decision that a size and a mark state.
-fn decision_of(size: u8, mark: u8) -> Result<Decision, Fault> {
+/// Whether a mark states that a decision is on.
+fn is_on(mark: u8) -> Result<bool, Fault> {
     match mark {
-        0 => Ok(Decision { size, on: false }),
-        1 => Ok(Decision { size, on: true }),
+        0 => Ok(false),
+        1 => Ok(true),
         _ => Err(Fault::Malformed),
     }
 }
 
-/// Opens a planner over decisions of two bytes each.
-fn read_decisions(planner: &mut Planner<Cents>, bytes: &[u8], count: usize) -> Result<(), Fault> {
-    let mut decisions = [ABSENT; 64];
-    for (slot, mark) in decisions.iter_mut().zip(bytes.chunks_exact(2)) {
-        *slot = decision_of(byte(mark, 0), byte(mark, 1))?;
+/// Opens a planner over decisions, each a size and a mark.
+fn read_decisions(planner: &mut Planner<Cents>, stated: &[[u8; 2]]) -> Result<(), Fault> {
+    let mut decisions = ArrayVec::<Decision, 64>::new();
+    for [size, mark] in stated {
+        let decision = Decision {
+            size: *size,
+            on: is_on(*mark)?,
+        };
+        decisions.try_push(decision).map_err(|_| Fault::Malformed)?;
     }
-    match decisions.split_at_checked(count) {
-        Some((stated, _)) => planner.open(stated)?,
-        None => return Err(Fault::Malformed),
-    }
+    planner.open(decisions.as_slice())?;
     Ok(())
 }
 
@@ -44,56 +38,55 @@ fn kind_of(byte: u8) -> Result<Kind, Fault> {
     }
 }
 
-/// The pair at a place of a record.
-fn pair_at(record: &[u8], decision: usize, value: usize) -> Literal {
-    Literal {
-        decision: byte(record, decision),
-        value: byte(record, value),
-    }
-}
-
-/// Adds the rule that a record of 16 bytes states.
-fn read_rule(planner: &mut Planner<Cents>, record: &[u8]) -> Result<(), Fault> {
-    let kind = kind_of(byte(record, 0))?;
-    let pairs = [
-        pair_at(record, 2, 3),
-        pair_at(record, 4, 5),
-        pair_at(record, 6, 7),
-        pair_at(record, 8, 9),
-    ];
-    let cents = u32::from_le_bytes([
-        byte(record, 12),
-        byte(record, 13),
-        byte(record, 14),
-        byte(record, 15),
-    ]);
+/// Adds the rule that a record states.
+fn read_rule(planner: &mut Planner<Cents>, record: &[u8; 16]) -> Result<(), Fault> {
+    let [
+        kind,
+        count,
+        d0,
+        v0,
+        d1,
+        v1,
+        d2,
+        v2,
+        d3,
+        v3,
+        target,
+        tier,
+        c0,
+        c1,
+        c2,
+        c3,
+    ] = *record;
+    let pairs = [(d0, v0), (d1, v1), (d2, v2), (d3, v3)].map(|(decision, value)| Literal {
+        decision,
+        value,
+    });
     let price = Price {
-        tier: byte(record, 11),
-        cents,
+        tier,
+        cents: u32::from_le_bytes([c0, c1, c2, c3]),
     };
+    let kind = kind_of(kind)?;
+    let stated = pairs.get(0..count as usize).ok_or(Fault::Malformed)?;
     let mut rule = Rule::new();
-    match pairs.split_at_checked(byte(record, 1) as usize) {
-        Some((stated, _)) => rule.compose(kind, stated, byte(record, 10), price)?,
-        None => return Err(Fault::Malformed),
-    }
+    rule.compose(kind, stated, target, price)?;
     planner.add(&rule)?;
     Ok(())
 }
 
 /// Opens a planner over the decisions of a book, and adds its rules.
 pub fn read_book(planner: &mut Planner<Cents>, book: &[u8]) -> Result<(), Fault> {
-    let count = byte(book, 0) as usize;
-    let Some((_, behind)) = book.split_at_checked(1) else {
-        return Err(Fault::Malformed);
-    };
-    let Some((decisions, records)) = behind.split_at_checked(2 * count) else {
-        return Err(Fault::Malformed);
-    };
-    if records.len() % 16 != 0 {
+    let (count, behind) = book.split_first().ok_or(Fault::Malformed)?;
+    let (decisions, rules) = behind
+        .split_at_checked(2 * *count as usize)
+        .ok_or(Fault::Malformed)?;
+    let (records, rest) = rules.as_chunks::<16>();
+    if !rest.is_empty() {
         return Err(Fault::Malformed);
     }
-    read_decisions(planner, decisions, count)?;
-    for record in records.chunks_exact(16) {
+    let (stated, _) = decisions.as_chunks::<2>();
+    read_decisions(planner, stated)?;
+    for record in records {
         read_rule(planner, record)?;
     }
     Ok(())

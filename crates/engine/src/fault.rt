@@ -2,7 +2,7 @@
 use rules::Refusal;
 
 /// Bytes that are no book, or a refusal of the planner.
-#[derive(Clone, Copy)]
+#[derive(Clone, Copy, Debug)]
 pub enum Fault {
     Malformed,
     Refused(Refusal),
@@ -15,7 +15,7 @@ impl From<Refusal> for Fault {
 }
 
 impl Fault {
-    /// The number that stands for the fault.
+    /// The number that stands for the fault. It stays a number, 255 beside those of refusals: the C interface answers it.
     pub fn number(self) -> u8 {
         match self {
             Fault::Malformed => 255,

@@ -10,7 +10,8 @@ use fault::Fault;
 use measure::Cents;
 use planner::Planner;
 
-/// What a run leaves. The cost is 0 if no best is held.
+/// What a run leaves. The cost is 0 if no best is held. The flag stands beside the cost, since the C interface has no
+/// `Option`.
 #[repr(C)]
 #[derive(Clone, Copy)]
 pub struct Outcome {
@@ -30,14 +31,10 @@ fn run_book(
     read_book(planner, book)?;
     let (steps, _) = planner.run(budget)?;
     let (state, best) = planner.best(plan)?;
-    let cost = match best {
-        Some(cost) => cost.sum,
-        None => 0,
-    };
     Ok(Outcome {
-        cost,
+        cost: best.map_or(0, |cost| cost.sum),
         steps,
-        settled: matches!(state, State::Settled),
+        settled: state == State::Settled,
         held: best.is_some(),
     })
 }

@@ -1,2 +1,1 @@
-pub mod Composes
 pub mod Costed

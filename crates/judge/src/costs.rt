@@ -1,10 +1,11 @@
 //! What a plan costs under each measure, or why it has no cost.
+ghost use Rattle.std.specs.Prelude.{map};
 ghost use Rattle.judge.specs.Costed.{Costed};
 
-use crate::book::Book;
 use measure::{Cents, CentsThenTier, Measure, Tier, TierThenCents};
 use rules::{Breach, Refusal};
 use std::fmt;
+use worked::Book;
 
 /// A lawful plan's cost under each measure.
 #[derive(Clone, Copy)]
@@ -24,9 +25,9 @@ pub enum Fault {
 
 /// A plan's cost under one measure.
 fn cost<M: Measure>(book: &Book, plan: &[u8]) -> Result<M, Fault>
-    ensures { Costed M.meaning book.now.decisions book.now.rows plan.now result }
+    ensures { Costed M.meaning book.now.decisions (map (λ rule. rule.row) book.now.rules) plan.now result }
 {
-    match rules::judge(&book.decisions, &book.rows, plan) {
+    match rules::judge(&book.decisions, &book.rows(), plan) {
         Ok(Ok(cost)) => Ok(cost),
         Ok(Err(breach)) => Err(Fault::Unlawful(breach)),
         Err(refusal) => Err(Fault::Refused(refusal)),
@@ -51,17 +52,7 @@ impl fmt::Display for Costs {
             tier_first,
             cents_first,
         } = *self;
-        write!(f, "{} cents  tier {}", cents.sum, tier.level)?;
-        write!(
-            f,
-            "  ({}, {})",
-            tier_first.first.level, tier_first.second.sum
-        )?;
-        write!(
-            f,
-            "  ({}, {})",
-            cents_first.first.sum, cents_first.second.level
-        )
+        write!(f, "{cents} cents  tier {tier}  {tier_first}  {cents_first}")
     }
 }
 
@@ -81,10 +72,7 @@ impl fmt::Display for Fault {
                 "unlawful: the value of decision {d} is out of range"
             ),
             Fault::Unlawful(Breach::Forbidden(k)) => write!(f, "unlawful: forbid rule {k} is met"),
-            Fault::Refused(refusal) => {
-                let number = refusal.number();
-                write!(f, "refused: {number}")
-            }
+            Fault::Refused(refusal) => write!(f, "refused: {}", refusal.number()),
         }
     }
 }

@@ -7,6 +7,7 @@ ghost use Rattle.measure.specs.Meaning.{Meaning};
 mod cents;
 mod pair;
 mod price;
+mod shown;
 #[cfg(test)]
 mod tests;
 mod tier;

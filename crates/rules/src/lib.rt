@@ -13,6 +13,7 @@ mod padding;
 mod refusal;
 mod row;
 mod rule;
+mod shown;
 #[cfg(test)]
 mod tests;
 mod verdict;

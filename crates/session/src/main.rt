@@ -1,47 +1,30 @@
 //! Takes the worked book through a planner, and prints each call with its answer.
 #![tactic(auto)]
 
-use book::{forbid, pair};
+use calling::{add, open, run, withdraw_price};
 use measure::{Cents, Measure, Tier};
 use planner::Planner;
-use rules::{Refusal, Rule};
+use questions::{best, exclusions};
+use showing::Trouble;
+use shown::Stated;
 use std::io;
+use worked::{Book, forbid, pair};
 
-mod book;
-mod calls;
+mod questions;
 mod shown;
 
 /// More steps than any run here needs.
 const AMPLE: u32 = 1000;
 
-/// Why the program stops.
-#[derive(Debug, Drop)]
-enum Trouble {
-    Refused(Refusal),
-    Output(io::Error),
-}
-
-impl From<Refusal> for Trouble {
-    fn from(refusal: Refusal) -> Trouble {
-        Trouble::Refused(refusal)
-    }
-}
-
-impl From<io::Error> for Trouble {
-    fn from(error: io::Error) -> Trouble {
-        Trouble::Output(error)
-    }
-}
-
 /// Opens a planner over the worked book and adds its rules, each call printed.
 fn state_book<M: Measure>(
     rt: &impl Print,
     planner: &mut Planner<M>,
-    rules: &[Rule],
+    book: &Book,
 ) -> io::Result<()> {
-    calls::open(rt, planner)?;
-    for rule in rules {
-        calls::add(rt, planner, rule)?;
+    open(rt, planner, "3 on, 2 off, 3 off", &book.decisions)?;
+    for rule in &book.rules {
+        add(rt, planner, Stated(rule.row()), rule)?;
     }
     Ok(())
 }
@@ -50,53 +33,61 @@ fn state_book<M: Measure>(
 fn load_book<M: Measure>(
     rt: &impl Print,
     planner: &mut Planner<M>,
-    rules: &[Rule],
+    book: &Book,
 ) -> Result<(), Trouble> {
-    planner.open(&book::DECISIONS)?;
-    for rule in rules {
+    planner.open(&book.decisions)?;
+    for rule in &book.rules {
         planner.add(rule)?;
     }
-    println!(rt; "open, and add the {} rules again: done", rules.len())?;
+    println!(rt; "open, and add the {} rules again: done", book.rules.len())?;
+    Ok(())
+}
+
+/// Forbids one value of a decision.
+fn forbid_value(
+    rt: &impl Print,
+    planner: &mut Planner<Cents>,
+    decision: u8,
+    value: u8,
+) -> Result<(), Trouble> {
+    let rule = forbid(&[pair(decision, value)])?;
+    add(rt, planner, Stated(rule.row()), &rule)?;
     Ok(())
 }
 
 /// From the opening to the settled plan.
-fn settle(rt: &impl Print, planner: &mut Planner<Cents>, rules: &[Rule]) -> io::Result<()> {
+fn settle(rt: &impl Print, planner: &mut Planner<Cents>, book: &Book) -> io::Result<()> {
     println!(rt; "== in cents ==")?;
-    state_book(rt, planner, rules)?;
-    calls::best(rt, planner, &mut [0; 3])?;
-    calls::run(rt, planner, 14)?;
-    calls::best(rt, planner, &mut [0; 3])?;
-    calls::run(rt, planner, 1)?;
-    calls::best(rt, planner, &mut [0; 3])?;
-    calls::exclusions(rt, planner)
+    state_book(rt, planner, book)?;
+    best(rt, planner, &mut [0; 3])?;
+    run(rt, planner, 14)?;
+    best(rt, planner, &mut [0; 3])?;
+    run(rt, planner, 1)?;
+    best(rt, planner, &mut [0; 3])?;
+    exclusions(rt, planner)
 }
 
 /// A price goes, and what is then cheapest.
 fn lose_a_price(rt: &impl Print, planner: &mut Planner<Cents>) -> io::Result<()> {
     println!(rt; "== the price of 0=2 goes ==")?;
-    calls::withdraw_price(rt, planner, 1)?;
-    calls::best(rt, planner, &mut [0; 3])?;
-    calls::exclusions(rt, planner)?;
-    calls::run(rt, planner, AMPLE)?;
-    calls::best(rt, planner, &mut [0; 3])?;
-    calls::exclusions(rt, planner)
+    withdraw_price(rt, planner, 1)?;
+    best(rt, planner, &mut [0; 3])?;
+    exclusions(rt, planner)?;
+    run(rt, planner, AMPLE)?;
+    best(rt, planner, &mut [0; 3])?;
+    exclusions(rt, planner)
 }
 
 /// The same search again, stopped where exclusions have reasons.
-fn settle_again(
-    rt: &impl Print,
-    planner: &mut Planner<Cents>,
-    rules: &[Rule],
-) -> Result<(), Trouble> {
+fn settle_again(rt: &impl Print, planner: &mut Planner<Cents>, book: &Book) -> Result<(), Trouble> {
     println!(rt; "== with reasons ==")?;
-    load_book(rt, planner, rules)?;
-    calls::run(rt, planner, 3)?;
-    calls::exclusions(rt, planner)?;
-    calls::run(rt, planner, 7)?;
-    calls::exclusions(rt, planner)?;
-    calls::run(rt, planner, AMPLE)?;
-    calls::best(rt, planner, &mut [0; 3])?;
+    load_book(rt, planner, book)?;
+    run(rt, planner, 3)?;
+    exclusions(rt, planner)?;
+    run(rt, planner, 7)?;
+    exclusions(rt, planner)?;
+    run(rt, planner, AMPLE)?;
+    best(rt, planner, &mut [0; 3])?;
     Ok(())
 }
 
@@ -104,51 +95,51 @@ fn settle_again(
 fn lose_a_value(
     rt: &impl Print,
     planner: &mut Planner<Cents>,
-    rules: &[Rule],
+    book: &Book,
     value: u8,
 ) -> Result<(), Trouble> {
     println!(rt; "== 0={value} is forbidden ==")?;
-    load_book(rt, planner, rules)?;
-    calls::run(rt, planner, AMPLE)?;
-    calls::add(rt, planner, &forbid(&[pair(0, value)])?)?;
-    calls::best(rt, planner, &mut [0; 3])?;
-    calls::exclusions(rt, planner)?;
-    calls::run(rt, planner, AMPLE)?;
-    calls::best(rt, planner, &mut [0; 3])?;
+    load_book(rt, planner, book)?;
+    run(rt, planner, AMPLE)?;
+    forbid_value(rt, planner, 0, value)?;
+    best(rt, planner, &mut [0; 3])?;
+    exclusions(rt, planner)?;
+    run(rt, planner, AMPLE)?;
+    best(rt, planner, &mut [0; 3])?;
     Ok(())
 }
 
 /// Calls that are refused, and what the planner then still holds.
 fn be_refused(rt: &impl Print, planner: &mut Planner<Cents>) -> Result<(), Trouble> {
     println!(rt; "== refused ==")?;
-    calls::add(rt, planner, &forbid(&[pair(3, 1)])?)?;
-    calls::add(rt, planner, &forbid(&[pair(1, 3)])?)?;
-    calls::withdraw_price(rt, planner, 8)?;
-    calls::run(rt, planner, 1_000_001)?;
-    calls::best(rt, planner, &mut [0; 2])?;
-    calls::best(rt, planner, &mut [0; 3])?;
+    forbid_value(rt, planner, 3, 1)?;
+    forbid_value(rt, planner, 1, 3)?;
+    withdraw_price(rt, planner, 8)?;
+    run(rt, planner, 1_000_001)?;
+    best(rt, planner, &mut [0; 2])?;
+    best(rt, planner, &mut [0; 3])?;
     Ok(())
 }
 
 /// The worked book under the measure `Tier`.
-fn settle_tiers(rt: &impl Print, rules: &[Rule]) -> Result<(), Trouble> {
+fn settle_tiers(rt: &impl Print, book: &Book) -> Result<(), Trouble> {
     println!(rt; "== in tiers ==")?;
     let mut planner = Planner::<Tier>::new();
-    load_book(rt, &mut planner, rules)?;
-    calls::run(rt, &mut planner, AMPLE)?;
-    calls::best(rt, &planner, &mut [0; 3])?;
-    calls::exclusions(rt, &planner)?;
+    load_book(rt, &mut planner, book)?;
+    run(rt, &mut planner, AMPLE)?;
+    best(rt, &planner, &mut [0; 3])?;
+    exclusions(rt, &planner)?;
     Ok(())
 }
 
 fn main(rt: HostRuntime) -> Result<(), Trouble> {
-    let rules = book::rules()?;
+    let book = Book::worked()?;
     let mut planner = Planner::<Cents>::new();
-    settle(&rt, &mut planner, &rules)?;
+    settle(&rt, &mut planner, &book)?;
     lose_a_price(&rt, &mut planner)?;
-    settle_again(&rt, &mut planner, &rules)?;
-    lose_a_value(&rt, &mut planner, &rules, 1)?;
-    lose_a_value(&rt, &mut planner, &rules, 3)?;
+    settle_again(&rt, &mut planner, &book)?;
+    lose_a_value(&rt, &mut planner, &book, 1)?;
+    lose_a_value(&rt, &mut planner, &book, 3)?;
     be_refused(&rt, &mut planner)?;
-    settle_tiers(&rt, &rules)
+    settle_tiers(&rt, &book)
 }
