@@ -1,5 +1,5 @@
 //! The forms of a field.
-ghost use Rattle.std.specs.Prelude.{◌≡◌};
+ghost use Rattle.std.specs.Prelude.{◌≡◌, ◌&&◌, ◌||◌, codes};
 ghost use Rattle.std.specs.Str.{bytes_eq};
 ghost use Rattle.reading.specs.Numbers.{number_up_to};
 ghost use Rattle.statements.specs.Forms.{mark_of, pair_of};
@@ -9,9 +9,13 @@ use rules::Literal;
 
 /// Whether a field is this mark word.
 fn is_mark(word: &str, field: &[u8]) -> bool
-    ensures { result ≡ bytes_eq word.now field.now }
+    ensures { result ≡ ((bytes_eq word.now (codes "on") || bytes_eq word.now (codes "off")) && bytes_eq word.now field.now) }
 {
-    word.as_bytes() == field
+    match word {
+        "on" => field == b"on".as_slice(),
+        "off" => field == b"off".as_slice(),
+        _ => false,
+    }
 }
 
 /// The mark that a field is.
