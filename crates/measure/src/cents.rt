@@ -37,7 +37,7 @@ impl Measure for Cents {
 
     fn read(price: Price) -> Cents {
         Cents {
-            sum: price.cents as u64,
+            sum: u64::from(price.cents),
         }
     }
 

@@ -6,12 +6,14 @@ ghost use Rattle.sets.specs.Members.{members};
 
 use crate::{Counting, Decision, Row, value_of};
 use sets::DecisionSet;
+use std::array;
 
 /// The decisions that are marked on.
 fn marked(decisions: &[Decision]) -> DecisionSet
     requires { length decisions.now ≤ 64 }
     ensures { members result ≡ on_at decisions.now }
 {
+    // A fold over the decisions with their numbers, and filtered, is no shorter.
     let mut set = DecisionSet::empty();
     for (number, decision) in decisions.iter().enumerate() {
         if decision.on {
@@ -36,11 +38,7 @@ fn choice(plan: &[u8], set: DecisionSet, decision: u8) -> u8
 fn choices(plan: &[u8], set: DecisionSet) -> [u8; 64]
     ensures { from_bytes result ≡ within (members set) (from_bytes plan.now) }
 {
-    let mut chosen = [0; 64];
-    for i in 0..64u8 {
-        chosen[i as usize] = choice(plan, set, i);
-    }
-    chosen
+    array::from_fn(|decision| choice(plan, set, decision as u8))
 }
 
 /// Whether a row counts, and a plan meets it.
@@ -54,6 +52,7 @@ fn fires<C: Counting>(row: &Row, plan: &[u8]) -> bool
 pub fn enabled<C: Counting>(rows: &[Row], plan: &[u8]) -> DecisionSet
     ensures { (d : ℕ) → d < 64 → members result d ≡ enables (filter C.counted rows.now) (from_bytes plan.now) d }
 {
+    // A fold over the rows that fire is no shorter.
     let mut targets = DecisionSet::empty();
     for row in rows {
         if fires::<C>(row, plan) {
