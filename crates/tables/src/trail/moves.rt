@@ -86,6 +86,7 @@ fn sweep(entries: &mut [Entry], values: &mut [u8; 64], at: usize) -> (usize, Dec
     let mut left = DecisionSet::empty().with(culprit);
     values[culprit as usize] = 0;
     let mut place = at;
+    // A loop: the closure of a `retain` would change `left`, and after it nothing would be known of that.
     for i in at + 1..entries.len() {
         let entry = entries[i];
         if entry.support.meets(left) {

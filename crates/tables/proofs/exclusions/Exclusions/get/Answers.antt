@@ -6,10 +6,10 @@ use Rattle.tables.proofs.Marks.{value_known}
 use Rattle.tables.proofs.exclusions.Exclusions.get.Goals as goal
 use Rattle.tables.proofs.exclusions.Exclusions.get.Goals.{else-d-lt64-via-then-d-lt64+else-has, else-d-lt64-via-else-d-lt64}
 
-pub invariant_of-choice : goal.invariant_of-choice
-invariant_of-choice c =
+pub cell-requires : goal.cell-requires
+cell-requires c =
     let known = value_known (get_or c.args.self.now.excluded c.args.d no_value) c.args.v (sym c.if-has.ensures) in
-    record { known = c.if-d-lt64.true; some = known.0; few = known.1 }
+    record { known = c.if-d-lt64.true; low = known.0; high = known.1 }
 
 pub returns-then-has : goal.returns-then-has
 returns-then-has c =
