@@ -1,14 +1,15 @@
 -- What compose makes of parts that it accepts is exact, and so is a new rule.
-use Rattle.std.proofs.Common.{◌≡◌, ℕ, zero, suc, ◌-◌, ◌≤◌, true, false, not, ◌&&◌, ltb, leb, List, ◌++◌, length, drop, replicate, None, refl, ap, ◌∙◌}
+use Rattle.std.proofs.Common.{◌≡◌, ℕ, zero, suc, ◌-◌, ◌≤◌, true, false, not, ◌&&◌, ◌||◌, eqb, ltb, leb, List, ◌++◌, length, drop, replicate, None, refl, ap, ◌∙◌}
 use lib.Seq.{drop-append_seam}
-use Rattle.std.proofs.lemmas.Bool.{le-leb, ltb-false}
+use Rattle.std.proofs.lemmas.Bool.{and_parts, le-leb, ltb-false}
 use Rattle.measure.specs.declared.price.Price.{Price}
-use Rattle.rules.specs.Compose.{ascends, compose_refusal, composed, blank, blanks, is_exact, is_price}
+use Rattle.rules.specs.Compose.{ascends, compose_refusal, composed, blank, blanks, in_range, is_activate, is_exact, is_free, is_price}
 use Rattle.rules.specs.Refusals.{when, or_else}
 use Rattle.rules.specs.declared.literal.Literal.{Literal}
 use Rattle.rules.specs.declared.refusal.Refusal.TheVariants.{PairCount, NotAscending, CentsTooLarge}
 use Rattle.rules.specs.declared.row.Kind.{Kind}
 use Rattle.rules.specs.declared.row.Kind.TheVariants.{Forbid, Activate, Price as Priced}
+use Rattle.rules.specs.declared.row.Row.{Row}
 use Rattle.rules.proofs.Grounds.{when_none, or_else_none}
 use Rattle.book.specs.Laws.{ComposedIsExact}
 
@@ -41,3 +42,17 @@ composed_exact k ps t price low tier h = in_range_exact k ps t price low tier (a
 pub composed_is_exact : ComposedIsExact
 unfolding is_exact
 composed_is_exact = (refl, composed_exact)
+
+-- what an exact row keeps: a target and a price in range, and only what its kind has
+pub exact_parts : (r : Row) → is_exact r ≡ true → (leb r.target 255 ≡ true) × (in_range r.price ≡ true) × ((is_activate r.kind || eqb r.target 0) ≡ true) × ((is_price r.kind || is_free r.price) ≡ true)
+unfolding is_exact
+exact_parts r h =
+    let low = leb r.target 255 in
+    let range = in_range r.price in
+    let aimed = is_activate r.kind || eqb r.target 0 in
+    let priced = is_price r.kind || is_free r.price in
+    let front = and_parts (low && range && aimed && priced) (blanks (drop r.count r.pairs)) h in
+    let fore = and_parts (low && range && aimed) priced front.0 in
+    let ranges = and_parts (low && range) aimed fore.0 in
+    let first = and_parts low range ranges.0 in
+    (first.0, first.1, ranges.1, fore.1)

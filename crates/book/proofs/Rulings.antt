@@ -15,7 +15,7 @@ use Rattle.rendering.specs.Texts.{parts_line, rule_line}
 use Rattle.statements.specs.Statements.{Stated, rules}
 use Rattle.grammar.specs.Grammar.{fitting, fitting_head, fitting_pair, fitting_pairs}
 use Rattle.book.specs.Laws.{BytePaired, IsExact}
-use Rattle.book.proofs.Exactness.{composed_exact}
+use Rattle.book.proofs.Exactness.{composed_exact, exact_parts}
 
 -- the lines of rules
 abbrev pub rule_lines : List Rule → List (List ℕ)
@@ -71,17 +71,9 @@ head_fits Priced t price low range aimed priced =
     and_from (eqb t 0) (leb price.tier 255 && leb price.cents 4294967295) aimed (and_from (leb price.tier 255) (leb price.cents 4294967295) fit.0 cents)
 
 exact_fits : (r : Row) → is_exact r ≡ true → fitting_head r.kind r.target r.price ≡ true
-unfolding is_exact
 exact_fits r h =
-    let low = leb r.target 255 in
-    let range = in_range r.price in
-    let aimed = is_activate r.kind || eqb r.target 0 in
-    let priced = is_price r.kind || is_free r.price in
-    let front = (and_parts (low && range && aimed && priced) _ h).0 in
-    let fore = and_parts (low && range && aimed) priced front in
-    let ranges = and_parts (low && range) aimed fore.0 in
-    let first = and_parts low range ranges.0 in
-    head_fits r.kind r.target r.price first.0 first.1 ranges.1 fore.1
+    let (low, range, aimed, priced) = exact_parts r h in
+    head_fits r.kind r.target r.price low range aimed priced
 
 pub stated_fits : (r : Rule) → BytePaired r → IsExact r → fitting (stated_rule r) ≡ true
 stated_fits r h exact =

@@ -1,12 +1,12 @@
 -- The text of what a planner holds is short enough to be loaded.
-use Rattle.std.proofs.Common.{◌≡◌, ℕ, ◌*◌, ◌<◌, ◌≤◌, Bool, true, false, ◌&&◌, ◌||◌, eqb, leb, List, [], ◌∷◌, ◌++◌, map, length, drop, None, decimal, subst, add-mul, arith, length-append, length-take}
+use Rattle.std.proofs.Common.{◌≡◌, ℕ, ◌*◌, ◌<◌, ◌≤◌, Bool, true, false, leb, List, [], ◌∷◌, ◌++◌, map, length, None, decimal, subst, add-mul, arith, length-append, length-take}
 use lib.ListN.{length-map}
 use Rattle.std.proofs.lemmas.Fmt.{length-decimal-le}
 use Rattle.std.proofs.ByRecursion.{All-append, All-map, All-weaker}
 use Rattle.std.proofs.lemmas.Bool.{and_parts, leb-true}
 use Rattle.std.specs.List.{AllByRecursion}
 use Rattle.measure.specs.declared.price.Price.{Price}
-use Rattle.rules.specs.Compose.{blanks, in_range, is_activate, is_exact, is_free, is_price}
+use Rattle.rules.specs.Compose.{is_exact}
 use Rattle.rules.specs.Conditions.{condition}
 use Rattle.rules.specs.Judging.{open_refusal}
 use Rattle.rules.specs.Plans.{Book}
@@ -19,6 +19,7 @@ use Rattle.rules.specs.declared.rule.Rule.{Rule}
 use Rattle.rules.proofs.Verdicts.{accepted_few}
 use Rattle.rendering.specs.Texts.{spaced, ended, pair_text, mark_text, head_fields, decision_line, parts_line, rule_line, book_text}
 use Rattle.book.specs.Laws.{ByteSized, BytePaired, IsExact, rows_of, stated_by}
+use Rattle.book.proofs.Exactness.{exact_parts}
 use Rattle.book.proofs.Fitting.{sizes_fit, rule_fits}
 use Rattle.book.proofs.Holding.{Holds, all_rules, rows_are, rules_few, rules_of}
 
@@ -64,16 +65,10 @@ head_short Priced target price t p c = (omega (arith, byte_short price.tier p), 
 
 -- the numbers of an exact row are in range
 exact_small : (r : Row) → is_exact r ≡ true → (r.target ≤ 255) × (r.price.tier ≤ 255) × (r.price.cents ≤ 1000000000)
-unfolding is_exact
 exact_small r h =
-    let target = leb r.target 255 in
-    let range = in_range r.price in
-    let aimed = is_activate r.kind || eqb r.target 0 in
-    let priced = is_price r.kind || is_free r.price in
-    let front = (and_parts (target && range && aimed && priced) (blanks (drop r.count r.pairs)) h).0 in
-    let (t, p) = and_parts target range (and_parts (target && range) aimed (and_parts (target && range && aimed) priced front).0).0 in
-    let (tier, cents) = and_parts (leb r.price.tier 255) (leb r.price.cents 1000000000) p in
-    (leb-true r.target 255 t, leb-true r.price.tier 255 tier, leb-true r.price.cents 1000000000 cents)
+    let (target, range, aimed, priced) = exact_parts r h in
+    let (tier, cents) = and_parts (leb r.price.tier 255) (leb r.price.cents 1000000000) range in
+    (leb-true r.target 255 target, leb-true r.price.tier 255 tier, leb-true r.price.cents 1000000000 cents)
 
 rule_short : (r : Rule) → BytePaired r → IsExact r → Shorter 68 (rule_line r.row)
 unfolding parts_line

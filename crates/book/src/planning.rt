@@ -18,6 +18,7 @@ const RUNS: u32 = 100;
 const STEPS: u32 = 100_000;
 
 /// Makes so many runs of so many steps each.
+#[tactic(auto, using(crate::proofs::Running::no_runs, crate::proofs::Running::one_run))]
 fn run_long(planner: &mut Planner<TierThenCents>, runs: u32, steps: u32)
     ensures { account_of planner.new ≡ after_runs (pair_of tier cents) runs steps (account_of planner.old) }
 {

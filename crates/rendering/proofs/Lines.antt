@@ -1,7 +1,11 @@
 -- Texts made of fields and lines, one behind another.
 use Rattle.std.proofs.Common.{◌≡◌, ℕ, suc, ◌+◌, Bool, true, false, cond, ltb, List, [], ◌∷◌, ◌++◌, map, length, sym, refl, ap, ◌∙◌, append_assoc, add-zero, zero-add, arith}
-use Rattle.std.specs.List.{flat_map}
-use Rattle.rendering.specs.Texts.{spaced, ended, choice_line, choice_lines}
+use Rattle.std.specs.List.{flat_map, fold}
+use Rattle.std.proofs.lemmas.List.{map-append}
+use Rattle.std.proofs.lemmas.List.Sums.{fold-append}
+use Rattle.rules.specs.declared.decision.Decision.{Decision}
+use Rattle.rules.specs.declared.row.Row.{Row}
+use Rattle.rendering.specs.Texts.{spaced, ended, decision_line, rule_line, book_text, choice_line, choice_lines}
 
 -- lines behind lines
 pub ended_append : (ks ls : List (List ℕ)) → ended (ks ++ ls) ≡ ended ks ++ ended ls
@@ -43,3 +47,8 @@ pub chosen_push : (vs : List ℕ) (v : ℕ) → ended (choice_lines 0 (vs ++ v �
 chosen_push vs v =
     ap ended (choices_push 0 vs v ∙ ap (λ (k : ℕ). choice_lines 0 vs ++ of_choice k v) (zero-add (length vs)))
     ∙ ended_append (choice_lines 0 vs) (of_choice (length vs) v)
+
+-- the lines of rules, behind those of decisions, kind by kind
+module _ {S : Type 0} (f : S → ℕ → S) (s a b c d : S) (ds : List Decision) (fs ts ps : List Row) where
+  pub book_lines : a ≡ fold f s (flat_map (λ x. decision_line x ++ 10 ∷ []) ds) → b ≡ fold f a (flat_map (λ r. rule_line r ++ 10 ∷ []) fs) → c ≡ fold f b (flat_map (λ r. rule_line r ++ 10 ∷ []) ts) → d ≡ fold f c (flat_map (λ r. rule_line r ++ 10 ∷ []) ps) → d ≡ fold f s (book_text ds (fs ++ (ts ++ ps)))
+  book_lines p q r t = simp (t, r, q, p, ended_append, map-append, fold-append, ended_each decision_line, ended_each rule_line)

@@ -2,8 +2,7 @@
 ghost use Rattle.std.specs.Prelude.{◌≡◌, ℕ, decimal};
 ghost use Rattle.std.specs.List.{fold};
 
-/// What takes a text byte by byte. No value of `fmt` is used: its contracts say what a text is where writing succeeds,
-/// and not that it does.
+/// What takes a text byte by byte. Texts are put by hand, since what `fmt` promises never says that writing succeeds.
 pub trait Sink {
     ghost after: { Self → ℕ → Self };
 
@@ -21,12 +20,15 @@ pub trait Sink {
     }
 
     /// Takes the decimal digits of a number.
+    #[tactic(auto, using(std::proofs::lemmas::Fmt::decimal_digit, std::proofs::lemmas::Fmt::decimal_step, std::proofs::lemmas::List::Sums::fold_push))]
     final fn number(&mut self, number: u64)
         ensures { self.new ≡ fold after self.old (decimal number) }
     {
-        if number >= 10 {
+        if number < 10 {
+            self.byte(b'0' + number as u8);
+        } else {
             self.number(number / 10);
+            self.byte(b'0' + (number % 10) as u8);
         }
-        self.byte(b'0' + (number % 10) as u8);
     }
 }
