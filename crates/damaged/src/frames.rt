@@ -16,7 +16,7 @@ pub struct Frame<'a> {
 }
 
 /// The first frame of an input, if there is one.
-pub fn next_frame<'a>(input: &'a [u8]) -> Option<Frame<'a>> {
+fn next_frame<'a>(input: &'a [u8]) -> Option<Frame<'a>> {
     let (header, body) = split_once(input, b'\n')?;
     let (length, times) = split_once(header, b' ')?;
     let length = usize::try_from(number(length, MOST)?).ok()?;
@@ -25,18 +25,31 @@ pub fn next_frame<'a>(input: &'a [u8]) -> Option<Frame<'a>> {
     Some(Frame { part, times, rest })
 }
 
-/// Puts a part so many times into a book, as long as there is room, and answers the book's length.
-pub fn repeat(part: &[u8], times: u32, book: &mut [u8]) -> usize
-    ensures { result ≤ length book.old }
-{
-    let mut count = 0;
-    for _ in 0..times {
-        if part.len() > book.len() - count {
-            break;
-        }
-        let place = &mut book[count..count + part.len()];
-        place.copy_from_slice(part);
-        count += part.len();
+/// The frames of an input, from first to last.
+#[derive(Drop)]
+pub struct Frames<'a>(pub &'a [u8]);
+
+impl<'a> Iterator for Frames<'a> {
+    type Item = Frame<'a>;
+
+    fn next(&mut self) -> Option<Frame<'a>> {
+        let frame = next_frame(self.0)?;
+        self.0 = frame.rest;
+        Some(frame)
     }
-    count
+}
+
+/// Puts a part so many times into a book, as long as there is room, and answers what it filled.
+pub fn repeat<'a>(part: &[u8], times: u32, book: &'a mut [u8]) -> &'a [u8]
+    ensures { length result.now ≤ length book.old }
+{
+    if part.is_empty() {
+        return &book[0..0];
+    }
+    let count = (times as usize).min(book.len() / part.len());
+    let filled = &mut book[0..count * part.len()];
+    for place in filled.chunks_exact_mut(part.len()) {
+        place.copy_from_slice(part);
+    }
+    filled
 }

@@ -3,7 +3,7 @@
 
 use anyhow::anyhow;
 use book::{load, write_fault};
-use frames::{next_frame, repeat};
+use frames::{Frames, repeat};
 use input::read_input;
 use measure::TierThenCents;
 use planner::Planner;
@@ -18,17 +18,19 @@ const INPUT: usize = 131_072;
 const BOOK: usize = 65_537;
 
 /// The most frames that are read.
-const FRAMES: u32 = 1_000;
+const FRAMES: usize = 1_000;
 
 /// Loads a book, and prints `accepted`, or its fault.
 fn show(rt: &HostRuntime, planner: &mut Planner<TierThenCents>, book: &[u8]) -> anyhow::Result<()> {
     let mut line = [0; 64];
     match load(planner, book) {
         Ok(()) => rt.println("accepted")?,
-        Err(fault) => match write_fault(&fault, &mut line) {
-            Ok(length) => rt.stdout().write_all(&line[0..length])?,
-            Err(_) => return Err(anyhow!("a fault is longer than its buffer")),
-        },
+        Err(fault) => {
+            let length = write_fault(&fault, &mut line).map_err(|_| anyhow!(
+                "a fault is longer than its buffer"
+            ))?;
+            rt.stdout().write_all(&line[0..length])?;
+        }
     }
     Ok(())
 }
@@ -37,20 +39,14 @@ fn show(rt: &HostRuntime, planner: &mut Planner<TierThenCents>, book: &[u8]) -> 
 fn show_all(rt: &HostRuntime, frames: &[u8]) -> anyhow::Result<()> {
     let mut planner = Planner::new();
     let mut book = [0; BOOK];
-    let mut rest = frames;
-    for _ in 0..FRAMES {
-        let Some(frame) = next_frame(rest) else {
-            break;
-        };
-        let count = repeat(frame.part, frame.times, &mut book);
-        show(rt, &mut planner, &book[0..count])?;
-        rest = frame.rest;
+    for frame in Frames(frames).take(FRAMES) {
+        let text = repeat(frame.part, frame.times, &mut book);
+        show(rt, &mut planner, text)?;
     }
     Ok(())
 }
 
 fn main(rt: HostRuntime) -> anyhow::Result<()> {
-    let mut frames = [0; INPUT];
-    let count = read_input(&rt, &mut frames)?;
-    show_all(&rt, &frames[0..count])
+    let mut buffer = [0; INPUT];
+    show_all(&rt, read_input(&rt, &mut buffer)?)
 }

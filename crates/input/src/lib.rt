@@ -6,21 +6,17 @@ ghost use Rattle.std.specs.Prelude.{◌≤◌, length, IfOk};
 use std::io;
 use std::io::Read;
 
-/// Reads standard input into a buffer, until it ends or the buffer is full, and answers how many bytes there are.
-pub fn read_input(rt: &HostRuntime, buffer: &mut [u8]) -> io::Result<usize>
-    ensures { IfOk result (λ n. n ≤ length buffer.old) }
+/// Reads standard input into a buffer, until it ends or the buffer is full, and answers what was read.
+pub fn read_input<'a>(rt: &HostRuntime, buffer: &'a mut [u8]) -> io::Result<&'a [u8]>
+    ensures { IfOk result (λ text. length text.now ≤ length buffer.old) }
 {
     let mut input = rt.stdin();
     let mut count = 0;
-    for _ in 0..buffer.len() {
-        if count >= buffer.len() {
-            break;
+    while count < buffer.len() {
+        match input.read(&mut buffer[count..])? {
+            0 => break,
+            more => count += more,
         }
-        let more = input.read(&mut buffer[count..])?;
-        if more == 0 {
-            break;
-        }
-        count += more;
     }
-    Ok(count)
+    Ok(&buffer[0..count])
 }

@@ -11,15 +11,13 @@ use std::io::Write;
 const ROOM: usize = 65_537;
 
 fn main(rt: HostRuntime) -> anyhow::Result<()> {
-    let mut text = [0; ROOM];
-    let count = read_input(&rt, &mut text)?;
+    let mut buffer = [0; ROOM];
+    let text = read_input(&rt, &mut buffer)?;
     let mut planner = Planner::new();
     let mut answer = [0; 1024];
-    match plan_book(&mut planner, &text[0..count], &mut answer) {
-        Ok(length) => {
-            rt.stdout().write_all(&answer[0..length])?;
-            Ok(())
-        }
-        Err(_) => Err(anyhow!("the plan is longer than its buffer")),
-    }
+    let length = plan_book(&mut planner, text, &mut answer).map_err(|_| anyhow!(
+        "the plan is longer than its buffer"
+    ))?;
+    rt.stdout().write_all(&answer[0..length])?;
+    Ok(())
 }
