@@ -1,6 +1,7 @@
 //! What a plan costs under each measure, or why it has no cost.
-ghost use Rattle.std.specs.Prelude.{map};
+ghost use Rattle.std.specs.Prelude.{◌≡◌, map};
 ghost use Rattle.judge.specs.Costed.{Costed};
+ghost use Rattle.judge.specs.declared.costs.Fault.TheVariants.{Unlawful, Refused};
 
 use measure::{Cents, CentsThenTier, Measure, Tier, TierThenCents};
 use rules::{Breach, Refusal};
@@ -23,15 +24,27 @@ pub enum Fault {
     Refused(Refusal),
 }
 
+impl From<Breach> for Fault {
+    ghost from_gives = { λ breach fault. fault ≡ Unlawful breach };
+
+    fn from(breach: Breach) -> Fault {
+        Fault::Unlawful(breach)
+    }
+}
+
+impl From<Refusal> for Fault {
+    ghost from_gives = { λ refusal fault. fault ≡ Refused refusal };
+
+    fn from(refusal: Refusal) -> Fault {
+        Fault::Refused(refusal)
+    }
+}
+
 /// A plan's cost under one measure.
 fn cost<M: Measure>(book: &Book, plan: &[u8]) -> Result<M, Fault>
     ensures { Costed M.meaning book.now.decisions (map (λ rule. rule.row) book.now.rules) plan.now result }
 {
-    match rules::judge(&book.decisions, &book.rows(), plan) {
-        Ok(Ok(cost)) => Ok(cost),
-        Ok(Err(breach)) => Err(Fault::Unlawful(breach)),
-        Err(refusal) => Err(Fault::Refused(refusal)),
-    }
+    Ok(rules::judge(&book.decisions, &book.rows(), plan)??)
 }
 
 /// A plan's cost under each measure.
