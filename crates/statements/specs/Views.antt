@@ -1,7 +1,6 @@
 -- What values of the code stand for.
 use Rattle.std.specs.Prelude.{◌≡◌, ℕ, ◌+◌, Bool, List, length, take, drop, IfSome, None, Ok, Err, Option, Result}
 use Rattle.std.specs.Iterator.{YieldsFirstBy}
-use Rattle.arrayvec.specs.ArrayVec.{ArrayVec}
 use Rattle.rules.specs.declared.literal.Literal.{Literal}
 use Rattle.reading.specs.Cursors.{column, left}
 use Rattle.reading.specs.Numbers.{number_up_to}
@@ -11,6 +10,7 @@ use Rattle.statements.specs.Statements.{Stated, decides, past, rules}
 use Rattle.statements.specs.declared.fields.Fields.{Fields}
 use Rattle.statements.specs.declared.line.Line.{Line}
 use Rattle.statements.specs.declared.lines.Lines.{Lines}
+use Rattle.statements.specs.declared.pairs.Pairs.{Pairs}
 use Rattle.statements.specs.declared.statement.Statement.{Statement}
 use Rattle.statements.specs.declared.statement.Statement.TheVariants.{Decision, Rule}
 use Rattle.statements.specs.declared.token.Token.{Token}
@@ -29,8 +29,8 @@ abbrev pub Given : Lines → Option Line → Lines → Type 0
 Given f r g = YieldsFirstBy line_of left_lines f r g × IfSome r (λ l. l.bytes.now ≡ take (length l.bytes.now) (drop f.pieces.place f.pieces.text.now))
 
 -- the pairs in use
-abbrev pub pairs_of : ArrayVec Literal → List Literal
-pairs_of p = p.items
+abbrev pub pairs_of : Pairs → List Literal
+pairs_of p = take p.count p.list
 
 -- the number, the mark or the pair that a token is, if it is of that form
 abbrev pub number_in : ℕ → Token → Option ℕ

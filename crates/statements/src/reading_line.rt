@@ -25,7 +25,8 @@ fn read_rule(fields: Fields, kind: Kind, target: u8, price: Price) -> Result<Sta
 {
     let line = fields.line();
     let pairs = fields.pairs()?;
-    if pairs.is_empty() || pairs.len() > 4 {
+    let count = pairs.as_slice().len();
+    if count < 1 || count > 4 {
         return Err(Fault::at_line(Refusal::PairCount, line));
     }
     Ok(Statement::Rule(Parts {

@@ -1,13 +1,10 @@
 //! What a line states.
-use arrayvec::ArrayVec;
+use crate::Pairs;
 use measure::Price;
-use rules::{Decision, Kind, Literal};
-
-/// The first pairs of a line, five at most: five are already too many for a rule.
-pub type Pairs = ArrayVec<Literal, 5>;
+use rules::{Decision, Kind};
 
 /// The parts of a rule.
-#[derive(Clone, Debug, PartialEq, Eq, Drop)]
+#[derive(Clone, Copy)]
 pub struct Parts {
     pub kind: Kind,
     pub pairs: Pairs,
@@ -16,7 +13,7 @@ pub struct Parts {
 }
 
 /// What a line states: the next decision, or a rule.
-#[derive(Clone, Debug, PartialEq, Eq, Drop)]
+#[derive(Clone, Copy)]
 pub enum Statement {
     Decision(Decision),
     Rule(Parts),

@@ -5,7 +5,7 @@ ghost use Rattle.rules.specs.declared.refusal.Refusal.TheVariants.{MalformedFiel
 ghost use Rattle.statements.specs.Fields.{fields_of};
 ghost use Rattle.statements.specs.Forms.{mark_of};
 ghost use Rattle.statements.specs.Statements.{fault, formed, front, read_pairs};
-ghost use Rattle.statements.specs.Views.{Advanced, on_ok, place, remaining};
+ghost use Rattle.statements.specs.Views.{Advanced, on_ok, pairs_of, place, remaining};
 
 use crate::fields::Fields;
 use crate::known::KnownLine;
@@ -90,16 +90,13 @@ impl<'a> Fields<'a> {
 
     /// The fields to come, as pairs.
     pub fn pairs(self) -> Result<Pairs, Fault>
-        ensures { on_ok (λ ps. ps.items) result ≡ on_ok (take 5) (read_pairs self.entry.line (place self.entry) (remaining self.entry)) }
+        ensures { on_ok pairs_of result ≡ on_ok (take 5) (read_pairs self.entry.line (place self.entry) (remaining self.entry)) }
     {
         let mut pairs = Pairs::new();
         for field in self.pieces {
             let placed = self.placed(Token::Pair(field.bytes), field.column);
             let pair = placed.formed(placed.token.pair())?;
-            // A sixth pair does not matter: the line has too many.
-            if !pairs.is_full() {
-                pairs.push(pair);
-            }
+            pairs.push(pair);
         }
         Ok(pairs)
     }

@@ -15,7 +15,7 @@ returns-in_err-compose g c =
     let e = c.in_err-compose.field-0.0 in
     let q = err_from_is_err_and c.from_residual.result c.from_residual.ensures.1 in
     let h : Err e ≡ as_result (compose_refusal p.kind (pairs_of p.pairs) p.price) =
-    c.in_err-compose.ensures.value ∙ ap (λ (ps : List Literal). as_result (compose_refusal p.kind ps p.price)) c.as_slice.ensures.value
+    c.in_err-compose.ensures.value ∙ ap (λ (ps : List Literal). as_result (compose_refusal p.kind ps p.price)) c.as_slice.ensures
     in
     let y = add_refusal (account_of c.args.planner.now) (composed p.kind (pairs_of p.pairs) p.target p.price) in
     record {
@@ -31,11 +31,11 @@ returns g c =
     let r = c.compose.new.self in
     let u = c.in_ok-compose.field-0 in
     let accepted : Ok u ≡ as_result (compose_refusal p.kind (pairs_of p.pairs) p.price) =
-    c.in_ok-compose.ensures.value ∙ ap (λ (ps : List Literal). as_result (compose_refusal p.kind ps p.price)) c.as_slice.ensures.value
+    c.in_ok-compose.ensures.value ∙ ap (λ (ps : List Literal). as_result (compose_refusal p.kind ps p.price)) c.as_slice.ensures
     in
     let is : r.row ≡ unless_refused (compose_refusal p.kind (pairs_of p.pairs) p.price) c.new-rule.result.row (composed p.kind (pairs_of p.pairs) p.target p.price) =
     c.compose.ensures.after
-    ∙ ap (λ (ps : List Literal). unless_refused (compose_refusal p.kind ps p.price) c.new-rule.result.row (composed p.kind ps p.target p.price)) c.as_slice.ensures.value
+    ∙ ap (λ (ps : List Literal). unless_refused (compose_refusal p.kind ps p.price) c.new-rule.result.row (composed p.kind ps p.target p.price)) c.as_slice.ensures
     in
     record {
       value = composed_says m a r p.kind (pairs_of p.pairs) p.target p.price c.new-rule.result.row u accepted is c.add.result c.add.ensures.value;
