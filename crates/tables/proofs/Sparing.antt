@@ -1,10 +1,7 @@
 -- A pass over the exclusions that takes some of them out.
-use Rattle.std.proofs.Common.{List, [], ◌∷◌, ◌++◌, filter, leb, ◌≡◌, ℕ, zero, suc, ◌+◌, ◌<◌, ◌≤◌, Bool, true, false, cond, not, ◌&&◌, ◌||◌, eqb, ltb, ◌⊎◌, length, get_or, set, Some, None, Option, sym, refl, ap, ◌∙◌, ap₂, inl, inr, arith, get_or-set_other, get_or-set_same}
+use Rattle.std.proofs.Common.{◌≡◌, ℕ, zero, suc, ◌+◌, ◌<◌, ◌≤◌, Bool, true, false, cond, not, ◌&&◌, ◌||◌, eqb, ltb, ◌⊎◌, length, get_or, set, Some, None, Option, sym, refl, ap, ◌∙◌, ap₂, inl, inr, arith, get_or-set_other, get_or-set_same}
 use mathlib.Core.Path.{fun_ext}
-use Rattle.std.specs.List.{list_any, range_with_len}
-use Rattle.std.proofs.lemmas.List.Elements.{filter-append}
-use Rattle.std.proofs.lemmas.List.Folds.{list_any-append}
-use Rattle.std.proofs.lemmas.Bool.{and_from, and_left, and_right, or_from, cases_eq, cases_lt, cases_order, eq-eqb, le-leb, le-ltb, lt-ltb, ne_eqb}
+use Rattle.std.proofs.lemmas.Bool.{and_right, cases_eq, cases_lt, cases_order, eq-eqb, le-ltb, lt-ltb, ne_eqb}
 use Rattle.rules.specs.Plans.{Set}
 use Rattle.rules.specs.Refusals.{when}
 use Rattle.account.specs.Accounts.{Exclusion, empty_below}
@@ -18,70 +15,29 @@ use Rattle.sets.specs.Searches.{some_below}
 use Rattle.sets.specs.declared.value_set.ValueSet.{ValueSet}
 use Rattle.tables.specs.Excluded.{exclusions_of, is_excluded, no_value, spared, stored_at}
 use Rattle.tables.specs.declared.exclusions.Exclusions.{Exclusions}
-use Rattle.tables.proofs.Folds.{next_value}
 use Rattle.tables.proofs.Cells.{not_excluded, past_excluded}
 
 -- whether a value is excluded and stays
 abbrev pub stays : (Exclusion → Bool) → Exclusions → ℕ → ℕ → Bool
 stays keep x d v = not (is_free (keep_if keep (exclusions_of x d v)))
 
--- the values of a list, as a set
-abbrev pub listed : List ℕ → ℕ → Bool
-listed vs x = list_any (λ v. eqb x v && (leb 1 v && leb v 16)) vs
-
--- one more value
-pub listed_more : (vs : List ℕ) (v : ℕ) (s after : ℕ → Bool) → s ≡ listed vs → after ≡ (λ x. s x || (eqb x v && (leb 1 v && leb v 16))) → after ≡ listed (vs ++ v ∷ [])
-listed_more vs v s after before new =
-    new
-    ∙ fun_ext (λ (x : ℕ).
-    ap₂ (λ (a b : Bool). a || b) (ap (λ (f : ℕ → Bool). f x) before) (sym (or_failed (eqb x v && (leb 1 v && leb v 16)) false refl))
-    ∙ sym (list_any-append (λ w. eqb x w && (leb 1 w && leb w 16)) vs (v ∷ [])))
-
+-- a set that is filled value by value with those that a test holds of
 module _ (t : ℕ → Bool) where
-  -- one more value, if it passes
-  listed_next : (n x : ℕ) → n < 16 → listed (filter t (range_with_len 1 (suc n))) x ≡ (listed (filter t (range_with_len 1 n)) x || (eqb x (suc n) && t (suc n)))
-  listed_next n x h =
-      ap (λ (vs : List ℕ). listed (filter t vs) x) (next_value n) ∙ ap (λ (vs : List ℕ). listed vs x) (filter-append t (range_with_len 1 n) (suc n ∷ []))
-      ∙ list_any-append (λ v. eqb x v && (leb 1 v && leb v 16)) (filter t (range_with_len 1 n)) (filter t (suc n ∷ []))
-      ∙ ap (λ (b : Bool). listed (filter t (range_with_len 1 n)) x || b) (last (t (suc n)))
+  -- no value is through
+  pub filled_none : t 0 ≡ false → (s : ValueSet) → values s ≡ (λ x. false) → values s ≡ (λ x. ltb x 1 && t x)
+  filled_none none s e = e ∙ fun_ext at
     where
-      known : (leb 1 (suc n) && leb (suc n) 16) ≡ true
-      known = and_from (leb 1 (suc n)) (leb (suc n) 16) (le-leb 1 (suc n) (omega arith)) (le-leb (suc n) 16 (omega arith))
+      at : (x : ℕ) → false ≡ (ltb x 1 && t x)
+      at zero = sym none
+      at (suc x) = sym (ap (λ (b : Bool). b && t (suc x)) (le-ltb (suc x) 1 (omega arith)))
 
-      last : (b : Bool) → listed (cond b (suc n ∷ []) []) x ≡ (eqb x (suc n) && b)
-      last true = or_failed (eqb x (suc n) && (leb 1 (suc n) && leb (suc n) 16)) false refl ∙ ap (λ (b : Bool). eqb x (suc n) && b) known
-      last false = sym (and_right (eqb x (suc n)) false refl)
-
-  -- no other number
-  listed_none : (n x : ℕ) → n ≤ 16 → (1 ≤ x → n < x) → listed (filter t (range_with_len 1 n)) x ≡ false
-  listed_none zero x h out = refl
-  listed_none (suc n) x h out =
-      listed_next n x (omega arith)
-      ∙ or_from (listed (filter t (range_with_len 1 n)) x) (eqb x (suc n) && t (suc n)) (listed_none n x (omega arith) (λ (l : 1 ≤ x). omega (arith, out l)))
-      (and_left (eqb x (suc n)) (t (suc n)) (ne_eqb x (suc n) (λ (e : x ≡ suc n). omega (arith, out (omega arith)))))
-
-  listed_at : (n x : ℕ) → n ≤ 16 → 1 ≤ x → x ≤ n → listed (filter t (range_with_len 1 n)) x ≡ t x
-  listed_at zero x h l u = absurd (omega arith)
-  listed_at (suc n) x h l u =
-      listed_next n x (omega arith)
-      ∙ elim (cases_eq x (suc n)) [
-        | inl same ↦
-            (ap₂ (λ (a b : Bool). a || (b && t (suc n))) (listed_none n x (omega arith) (λ (k : 1 ≤ x). omega arith)) (eq-eqb x (suc n) same) ∙ ap t (sym same))
-        | inr other ↦
-            (ap₂ (λ (a b : Bool). a || b) (listed_at n x (omega arith) l (omega arith)) (and_left (eqb x (suc n)) (t (suc n)) (ne_eqb x (suc n) other)) ∙ or_failed (t x) false refl)
-      ]
-
-  -- all values that pass a test that no other number passes
-  pub listed_all : t 0 ≡ false → ((x : ℕ) → 16 < x → t x ≡ false) → listed (filter t (range_with_len 1 16)) ≡ t
-  listed_all none past = fun_ext at
+  -- all values are through
+  pub filled_all : (s : ValueSet) (v : ℕ) → 17 ≤ v → ((x : ℕ) → 16 < x → t x ≡ false) → values s ≡ (λ x. ltb x v && t x) → values s ≡ t
+  filled_all s v h past before = before ∙ fun_ext (λ (x : ℕ). at x (cases_lt x v))
     where
-      at : (x : ℕ) → listed (filter t (range_with_len 1 16)) x ≡ t x
-      at zero = listed_none 16 0 (omega arith) (λ (l : 1 ≤ 0). absurd (omega arith)) ∙ sym none
-      at (suc x) =
-          elim (cases_lt 16 (suc x)) [
-            | inl h ↦ (listed_none 16 (suc x) (omega arith) (λ _. h) ∙ sym (past (suc x) h))
-            | inr h ↦ listed_at 16 (suc x) (omega arith) (omega arith) h
-          ]
+      at : (x : ℕ) → (x < v) ⊎ (v ≤ x) → (ltb x v && t x) ≡ t x
+      at x (inl l) = ap (λ (b : Bool). b && t x) (lt-ltb x v l)
+      at x (inr l) = ap (λ (b : Bool). b && t x) (le-ltb x v l) ∙ sym (past x (omega arith))
 
 module _ (keep : Exclusion → Bool) (x : Exclusions) (d : ℕ) where
   not_staying : (v : ℕ) → is_excluded x d v ≡ false → stays keep x d v ≡ false

@@ -164,9 +164,13 @@ impl Exclusions {
     fn spared_values(&self, d: u8, barred: DecisionSet, resting: bool) -> ValueSet
         ensures { values result ≡ (λ v. not (is_free (keep_if (spared (members barred) resting) (exclusions_of self.now d v)))) }
     {
-        (1..17u8)
-            .filter(|v| self.spares(d, *v, barred, resting))
-            .fold(ValueSet::empty(), |stays, v| stays.with(v))
+        let mut stays = ValueSet::empty();
+        for v in 1..17u8 {
+            if self.spares(d, v, barred, resting) {
+                stays = stays.with(v);
+            }
+        }
+        stays
     }
 
     /// Whether a value is excluded and spared.
