@@ -6,7 +6,7 @@ use Rattle.std.proofs.lemmas.List.FromFn.{fill_by_all}
 use Rattle.std.proofs.lemmas.Bool.{cases_eq, eq-eqb, ne_eqb, lt-leb, le-ltb}
 use Rattle.std.specs.List.{range_with_len}
 use Rattle.account.specs.Accounts.{Account, Best}
-use Rattle.account.specs.Calls.{Call, accepted, add, after, after_if, answer, answer_if, best, leaves, made, ran, refusal, refused, report, reported, run, written}
+use Rattle.account.specs.Calls.{Call, accepted, add, after, after_if, answer, answer_if, best, done, leaves, made, ran, refusal, refused, report, reported, run, withdraw, written}
 use Rattle.account.specs.Steps.{advance, advance_in, one_if_open, step}
 use Rattle.account.specs.declared.state.State.{State}
 use Rattle.account.specs.declared.state.State.TheVariants.{Open, Settled}
@@ -16,10 +16,11 @@ use Rattle.rules.specs.Judging.{row_refusal}
 use Rattle.rules.specs.Refusals.{or_else, when}
 use Rattle.rules.specs.declared.decision.Decision.{Decision}
 use Rattle.rules.specs.declared.refusal.Refusal.{Refusal}
-use Rattle.rules.specs.declared.refusal.Refusal.TheVariants.{BudgetTooLarge, ShortPlan, TableFull}
+use Rattle.rules.specs.declared.refusal.Refusal.TheVariants.{BudgetTooLarge, NoSuchRule, ShortPlan, TableFull}
+use Rattle.rules.specs.declared.row.Kind.{Kind}
 use Rattle.rules.specs.declared.row.Row.{Row}
 use Rattle.rules.specs.declared.rule.Rule.{Rule}
-use Rattle.account.specs.Changes.{held}
+use Rattle.account.specs.Changes.{added, held, withdrawn}
 use Rattle.planner.specs.Planners.{is_open}
 
 -- accounts whose parts are the same
@@ -123,3 +124,15 @@ module _ {C : Type 0} (m : Meaning C) (a : Account C) where
     -- a rule that does not fit the decisions
     pub rule_refused : (e : Refusal) → row_refusal ds row ≡ Some e → refusal a (add rule) ≡ Some e
     rule_refused e h = grounds ∙ ap (λ (o : Option Refusal). or_else o (when (leb 256 (length rows)) TableFull)) h
+
+    -- what an accepted rule leaves
+    pub rule_left : (x : Account C) → row_refusal ds row ≡ None → length rows < 256 → x ≡ added m a row.kind row → (done ≡ answer m a (add rule)) × (x ≡ after m a (add rule))
+    rule_left x h l e =
+        let (told, left) = accepts m a (add rule) (rule_accepted h l) in
+        (told, e ∙ ap (λ (r : Row). added m a r.kind r) same ∙ left)
+
+  -- what a rule's going leaves
+  pub place_left : (k : Kind) (n : ℕ) (rows : List Row) (x : Account C) → rows ≡ held a.book k → n < length rows → x ≡ withdrawn m a k n → (done ≡ answer m a (withdraw k n)) × (x ≡ after m a (withdraw k n))
+  place_left k n rows x same l e =
+      let (told, left) = accepts m a (withdraw k n) (ap (λ (b : Bool). when b NoSuchRule) (lt-leb (length (held a.book k)) n (omega (arith, l, ap length same)))) in
+      (told, e ∙ left)

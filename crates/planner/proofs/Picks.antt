@@ -1,11 +1,15 @@
 -- The decision that is preferred, one more looked at.
-use Rattle.std.proofs.Common.{◌≡◌, ℕ, ◌+◌, ◌<◌, Bool, true, false, not, ◌&&◌, ◌||◌, ltb, List, IfSome, Some, None, Option, sym, ap, ◌∙◌, ap₂, add-one}
+use Rattle.std.proofs.Common.{◌≡◌, ℕ, ◌+◌, ◌<◌, ◌≤◌, Bool, true, false, not, ◌&&◌, ◌||◌, ltb, List, length, IfSome, MatchOption, Some, None, Option, sym, ap, ◌∙◌, subst, ap₂, add-one, arith}
 use Rattle.std.proofs.lemmas.Bool.{cond_both}
+use Rattle.std.specs.Option.{option_map}
+use Rattle.account.proofs.Finds.{Picked, picked}
 use Rattle.account.specs.Steps.{pick, prefer, waits}
 use Rattle.rules.specs.Conditions.{Plan}
 use Rattle.rules.specs.Plans.{Book, enables, on_at}
 use Rattle.rules.specs.declared.decision.Decision.{Decision}
 use Rattle.rules.specs.declared.row.Row.{Row}
+use Rattle.tables.specs.declared.domain.Domain.{Domain}
+use Rattle.planner.specs.Books.{IsDomain}
 
 -- whether a decision waits, by the decisions and rows that were read
 pub waiting_is : (b : Book) (ds : List Decision) (rs : List Row) (p : Plan) (i : ℕ) (w member : Bool) → ds ≡ b.decisions → rs ≡ b.activates → member ≡ enables rs p i
@@ -28,3 +32,10 @@ low_preferred ranks true i n (Some d) l h =
 
 pub picked_low : (ranks : ℕ → ℕ) (w : Bool) (i n : ℕ) (o r : Option ℕ) → r ≡ prefer ranks w i o → i < n → IfSome o (λ d. d < n) → IfSome r (λ d. d < n)
 picked_low ranks w i n o r e l h = rw e (low_preferred ranks w i n o l h)
+
+-- the domain of a picked decision
+pub picked_domain : (b : Book) (ranks : ℕ → ℕ) (waiting : ℕ → Bool) (d : ℕ) (o : Option Domain) → Some d ≡ pick ranks waiting (length b.decisions)
+    → MatchOption o (length b.decisions ≤ d) (λ x. (x.decision ≡ d) × IsDomain b x) → option_map (λ x. x.decision) o ≡ pick ranks waiting (length b.decisions)
+picked_domain b ranks waiting d None e h =
+    absurd (omega (arith, h, (subst (Picked waiting (length b.decisions)) (sym e) (picked ranks waiting (length b.decisions))).0))
+picked_domain b ranks waiting d (Some x) e h = ap Some h.0 ∙ e

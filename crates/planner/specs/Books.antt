@@ -1,8 +1,9 @@
 -- The book that the tables of a planner stand for.
-use Rattle.std.specs.Prelude.{List, []}
-use Rattle.rules.specs.Plans.{Book as Rulebook}
+use Rattle.std.specs.Prelude.{◌≡◌, ◌<◌, List, [], length}
+use Rattle.rules.specs.Plans.{Book as Rulebook, size_at}
 use Rattle.rules.specs.declared.decision.Decision.{Decision}
 use Rattle.tables.specs.Tables.{table_rows}
+use Rattle.tables.specs.declared.domain.Domain.{Domain}
 use Rattle.planner.specs.declared.book.Book.{Book}
 
 -- the decisions in use, and the rules of each kind
@@ -19,6 +20,6 @@ book_of b =
 abbrev pub over_decisions : List Decision → Rulebook
 over_decisions ds = record { decisions = ds; forbids = []; activates = []; prices = [] }
 
--- a book with other decisions
-abbrev pub with_decisions : Rulebook → List Decision → Rulebook
-with_decisions b ds = record { decisions = ds; forbids = b.forbids; activates = b.activates; prices = b.prices }
+-- this is what a decision of a book may take
+abbrev pub IsDomain : Rulebook → Domain → Type 0
+IsDomain b x = (x.size ≡ size_at b.decisions x.decision) × (x.decision < length b.decisions)

@@ -1,18 +1,21 @@
 //! Which decision a step picks, and what supports it.
 ghost use Rattle.std.specs.Prelude.{◌≡◌, ◌<◌, not, ◌&&◌, ◌||◌, length, IfSome, nat_lt};
+ghost use Rattle.std.specs.Option.{option_map};
 ghost use Rattle.account.specs.Steps.{pick, prefer, support, waits};
 ghost use Rattle.rules.specs.Conditions.{from_bytes};
 ghost use Rattle.sets.specs.Members.{members};
-ghost use Rattle.planner.specs.Books.{book_of};
+ghost use Rattle.planner.specs.Books.{IsDomain, book_of};
 
 use crate::book::Book;
 use rules::{Kind, value_of};
 use scans::{enabled, enabler};
 use sets::DecisionSet;
+use tables::Domain;
 
-/// The decision that a step picks: of those that wait, the one of lowest rank, then lowest number.
-pub fn pick_decision(book: &Book, ranks: &[u8; 64], plan: &[u8]) -> Option<u8>
-    ensures { result ≡ pick (from_bytes ranks.now) (waits (book_of book.now) (from_bytes plan.now)) (length (book_of book.now).decisions) }
+/// The domain of the decision that a step picks: of those that wait, the one of lowest rank, then lowest number.
+pub fn pick_decision(book: &Book, ranks: &[u8; 64], plan: &[u8]) -> Option<Domain>
+    ensures picked { option_map (λ d. d.decision) result ≡ pick (from_bytes ranks.now) (waits (book_of book.now) (from_bytes plan.now)) (length (book_of book.now).decisions) }
+    ensures domain { IfSome result (IsDomain (book_of book.now)) }
 {
     let decisions = book.decisions();
     let targets = enabled(book.rows(Kind::Activate), plan);
@@ -22,7 +25,7 @@ pub fn pick_decision(book: &Book, ranks: &[u8; 64], plan: &[u8]) -> Option<u8>
         let waiting = is_waiting(plan, number, decision.on, targets);
         picked = preferred(ranks, waiting, number, picked);
     }
-    picked
+    book.domain(picked?)
 }
 
 /// Whether a decision is off the plan, and marked on or enabled.
@@ -49,11 +52,10 @@ fn preferred(ranks: &[u8; 64], waiting: bool, decision: u8, picked: Option<u8>) 
 
 /// The support of a decision: nobody if it is marked on, else what the first met activate rule with that target names.
 pub fn support_of(book: &Book, plan: &[u8], decision: u8) -> DecisionSet
-    requires { decision < length (book_of book.now).decisions }
     ensures { members result ≡ support (book_of book.now) (from_bytes plan.now) decision }
 {
-    let decisions = book.decisions();
-    if decisions[decision as usize].on {
+    let held = book.decisions().get(decision as usize);
+    if held.is_some_and(|held| held.on) {
         return DecisionSet::empty();
     }
     enabler(book.rows(Kind::Activate), plan, decision)

@@ -1,6 +1,4 @@
 //! The planner, and what its type keeps.
-ghost use Rattle.std.specs.Prelude.{◌≡◌, length};
-
 use crate::best::Best;
 use crate::book::Book;
 use account::State;
@@ -22,5 +20,4 @@ pub struct Planner<M> {
     state: State,
     /// What the price rules from each place on cost the plan that is looked at.
     costs: SuffixCosts<M>,
-    ghost ranked: { length ranks ≡ 64 },
 }

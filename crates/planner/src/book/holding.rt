@@ -1,17 +1,17 @@
 //! Reading and changing the decisions and rules that a planner holds.
-ghost use Rattle.std.specs.Prelude.{◌≡◌, ◌<◌, ◌≤◌, true, [], ◌∷◌, ◌++◌, length, None};
+ghost use Rattle.std.specs.Prelude.{◌≡◌, ◌<◌, ◌≤◌, true, [], ◌∷◌, ◌++◌, length, MatchOption};
 ghost use Rattle.std.specs.List.{remove};
 ghost use Rattle.account.specs.Changes.{held, with_rules};
 ghost use Rattle.rules.specs.Judging.{open_refusal, sized};
-ghost use Rattle.rules.specs.Plans.{size_at};
+ghost use Rattle.rules.specs.Refusals.{as_result, unless_refused};
 ghost use Rattle.scans.specs.Known.{Known};
 ghost use Rattle.tables.specs.Shapes.{all_shaped, shaped};
 ghost use Rattle.tables.specs.Tables.{table_rows};
-ghost use Rattle.planner.specs.Books.{book_of, over_decisions, with_decisions};
+ghost use Rattle.planner.specs.Books.{IsDomain, book_of, over_decisions};
 
 use crate::book::Book;
 use arrayvec::ArrayVec;
-use rules::{Decision, Kind, Row};
+use rules::{Decision, Kind, Refusal, Row, check_decisions};
 use tables::{Domain, RuleTable};
 
 impl Book {
@@ -30,25 +30,18 @@ impl Book {
         }
     }
 
-    /// Makes this a book of these decisions and no rules.
-    pub fn open(&mut self, decisions: &[Decision])
-        requires { open_refusal decisions.now ≡ None }
-        ensures { book_of self.new ≡ over_decisions decisions.now }
+    /// Makes this a book of these decisions and no rules. Refuses more than 64, then a size outside 1 to 16; it then
+    /// stays as it was.
+    pub fn open(&mut self, decisions: &[Decision]) -> Result<(), Refusal>
+        ensures value { result ≡ as_result (open_refusal decisions.now) }
+        ensures after { book_of self.new ≡ unless_refused (open_refusal decisions.now) (book_of self.old) (over_decisions decisions.now) }
     {
+        check_decisions(decisions)?;
+        self.decisions = ArrayVec::try_from(decisions).map_err(|_| Refusal::TooManyDecisions)?;
         self.forbids.clear();
         self.activates.clear();
         self.prices.clear();
-        self.set_decisions(decisions);
-    }
-
-    /// Puts these decisions in the place of those held.
-    fn set_decisions(&mut self, decisions: &[Decision])
-        requires { open_refusal decisions.now ≡ None }
-        ensures { book_of self.new ≡ with_decisions (book_of self.old) decisions.now }
-    {
-        self.decisions.clear();
-        // Accepted decisions are 64 at most, so they fit.
-        let _ = self.decisions.try_extend_from_slice(decisions);
+        Ok(())
     }
 
     /// The decisions.
@@ -60,14 +53,12 @@ impl Book {
         self.decisions.as_slice()
     }
 
-    /// The domain of a decision.
-    pub fn domain(&self, decision: u8) -> Domain
-        requires { decision < length (book_of self.now).decisions }
-        ensures same { result.decision ≡ decision }
-        ensures size { result.size ≡ size_at (book_of self.now).decisions decision }
+    /// The domain of a decision; none if there is no such decision.
+    pub fn domain(&self, decision: u8) -> Option<Domain>
+        ensures { MatchOption result (length (book_of self.now).decisions ≤ decision) (λ d. (d.decision ≡ decision) × IsDomain (book_of self.now) d) }
     {
-        let size = self.decisions()[decision as usize].size;
-        Domain { decision, size }
+        let size = self.decisions().get(decision as usize)?.size;
+        Some(Domain { decision, size })
     }
 
     /// The table of the rules of a kind.

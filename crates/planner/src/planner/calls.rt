@@ -1,14 +1,14 @@
 //! The calls on a planner that leave its rules alone.
-ghost use Rattle.std.specs.Prelude.{◌≡◌, ◌<◌, ◌≤◌, true, false, List, [], length, is_ok, None, IfOk, IfErr};
+ghost use Rattle.std.specs.Prelude.{◌≡◌, ◌≤◌, true, false, List, [], length, is_ok, None, IfOk, IfErr};
 ghost use Rattle.account.specs.Accounts.{fresh};
 ghost use Rattle.account.specs.Calls.{Call, after, answer, best, exclusion, rank as rank_call, run, unexcluded};
 ghost use Rattle.account.specs.Changes.{held};
 ghost use Rattle.account.specs.Law.{PlanningLaw};
 ghost use Rattle.rules.specs.Judging.{open_refusal, sized};
-ghost use Rattle.rules.specs.Plans.{size_at};
 ghost use Rattle.rules.specs.Refusals.{as_result, unless_refused};
 ghost use Rattle.rules.specs.declared.refusal.Refusal.TheVariants.{UnknownDecision};
 ghost use Rattle.tables.specs.Shapes.{all_shaped};
+ghost use Rattle.planner.specs.Books.{IsDomain};
 ghost use Rattle.planner.specs.Answers.{says_best, says_counted, says_done, says_excluded, says_ran};
 ghost use Rattle.planner.specs.Planners.{account_of, is_open};
 
@@ -16,7 +16,7 @@ use crate::book::Book;
 use crate::planner::Planner;
 use account::State;
 use measure::Measure;
-use rules::{Decision, Kind, Refusal, Row, check_decisions};
+use rules::{Decision, Kind, Refusal, Row};
 use scans::SuffixCosts;
 use sets::DecisionSet;
 use tables::{Domain, Exclusions, Trail};
@@ -47,22 +47,13 @@ impl<M: Measure> Planner<M> {
         ensures after { account_of self.new ≡ unless_refused (open_refusal decisions.now) (account_of self.old) (fresh decisions.now) }
         ensures law { open_refusal decisions.now ≡ None → (calls others : List Call) → PlanningLaw M.meaning decisions.now calls others }
     {
-        check_decisions(decisions)?;
-        self.reset(decisions);
-        Ok(())
-    }
-
-    /// Makes this a new planner over accepted decisions.
-    fn reset(&mut self, decisions: &[Decision])
-        requires { open_refusal decisions.now ≡ None }
-        ensures { account_of self.new ≡ fresh decisions.now }
-    {
-        self.book.open(decisions);
+        self.book.open(decisions)?;
         self.ranks = [0; 64];
         self.trail.clear();
         self.exclusions.clear();
         self.best = None;
         self.state = State::Open;
+        Ok(())
     }
 
     /// The decisions that the planner is opened over.
@@ -85,13 +76,10 @@ impl<M: Measure> Planner<M> {
 
     /// The domain of a decision. Refuses an unknown decision.
     fn domain(&self, decision: u8) -> Result<Domain, Refusal>
-        ensures known { IfOk result (λ d. (d.decision ≡ decision) × (d.size ≡ size_at (account_of self.now).book.decisions decision) × (decision < length (account_of self.now).book.decisions)) }
+        ensures known { IfOk result (λ d. (d.decision ≡ decision) × IsDomain (account_of self.now).book d) }
         ensures refused { IfErr result (λ e. (e ≡ UnknownDecision) × (length (account_of self.now).book.decisions ≤ decision)) }
     {
-        if decision as usize >= self.decisions().len() {
-            return Err(Refusal::UnknownDecision);
-        }
-        Ok(self.book.domain(decision))
+        self.book.domain(decision).ok_or(Refusal::UnknownDecision)
     }
 
     /// Sets the rank of a decision. Refuses an unknown decision.

@@ -17,8 +17,8 @@ use rules::{Kind, Refusal, Row, Rule, check_row};
 const MOST_RULES: usize = 256;
 
 impl<M: Measure> Planner<M> {
-    /// Puts a rule last of its kind. Refuses an unknown decision in its pairs or target, then an unknown value, then
-    /// when 256 of the kind are held.
+    /// Puts a rule last of its kind, and keeps what still holds. Refuses an unknown decision in its pairs or target,
+    /// then an unknown value, then when 256 of the kind are held.
     pub fn add(&mut self, rule: &Rule) -> Result<(), Refusal>
         ensures value { says_done result ≡ answer M.meaning (account_of self.old) (add rule.now) }
         ensures after { account_of self.new ≡ after M.meaning (account_of self.old) (add rule.now) }
@@ -28,28 +28,6 @@ impl<M: Measure> Planner<M> {
         if self.book.rows(row.kind).len() >= MOST_RULES {
             return Err(Refusal::TableFull);
         }
-        self.put_in(row);
-        Ok(())
-    }
-
-    /// Takes out the rule of a kind at a place. Refuses when no rule is there.
-    pub fn withdraw(&mut self, kind: Kind, place: usize) -> Result<(), Refusal>
-        ensures value { says_done result ≡ answer M.meaning (account_of self.old) (withdraw_call kind place) }
-        ensures after { account_of self.new ≡ after M.meaning (account_of self.old) (withdraw_call kind place) }
-    {
-        if place >= self.book.rows(kind).len() {
-            return Err(Refusal::NoSuchRule);
-        }
-        self.take_out(kind, place);
-        Ok(())
-    }
-
-    /// Puts an accepted rule in, and keeps what still holds.
-    fn put_in(&mut self, row: Row)
-        requires shape { shaped row ≡ true }
-        requires room { length (held (account_of self.old).book row.kind) < 256 }
-        ensures { account_of self.new ≡ added M.meaning (account_of self.old) row.kind row }
-    {
         let met = self.best_meets(&row);
         self.book.add(row);
         match row.kind {
@@ -57,19 +35,24 @@ impl<M: Measure> Planner<M> {
             Kind::Activate => self.reopen_rejudged(),
             Kind::Price => self.reopen_repriced(!met),
         }
+        Ok(())
     }
 
-    /// Takes a rule that is there out, and keeps what still holds.
-    fn take_out(&mut self, kind: Kind, place: usize)
-        requires { place < length (held (account_of self.old).book kind) }
-        ensures { account_of self.new ≡ withdrawn M.meaning (account_of self.old) kind place }
+    /// Takes out the rule of a kind at a place, and keeps what still holds. Refuses when no rule is there.
+    pub fn withdraw(&mut self, kind: Kind, place: usize) -> Result<(), Refusal>
+        ensures value { says_done result ≡ answer M.meaning (account_of self.old) (withdraw_call kind place) }
+        ensures after { account_of self.new ≡ after M.meaning (account_of self.old) (withdraw_call kind place) }
     {
+        if place >= self.book.rows(kind).len() {
+            return Err(Refusal::NoSuchRule);
+        }
         self.book.remove(kind, place);
         match kind {
             Kind::Forbid => self.reopen_afresh(),
             Kind::Activate => self.reopen_rejudged(),
             Kind::Price => self.reopen_repriced(false),
         }
+        Ok(())
     }
 
     /// Whether a best is held and meets a rule.

@@ -1,9 +1,10 @@
 //! The steps of the search.
-ghost use Rattle.std.specs.Prelude.{◌≡◌, ◌<◌, length};
+ghost use Rattle.std.specs.Prelude.{◌≡◌};
 ghost use Rattle.account.specs.Accounts.{chosen};
 ghost use Rattle.account.specs.Steps.{blame, conclude, extend, step};
 ghost use Rattle.sets.specs.Members.{members};
 ghost use Rattle.planner.specs.Bests.{cost_held};
+ghost use Rattle.planner.specs.Books.{IsDomain};
 ghost use Rattle.planner.specs.Planners.{account_of};
 
 use crate::pick::{pick_decision, support_of};
@@ -13,7 +14,7 @@ use crate::weighing::weigh;
 use account::State;
 use measure::Measure;
 use sets::DecisionSet;
-use tables::Choice;
+use tables::{Choice, Domain};
 
 impl<M: Measure> Planner<M> {
     /// Retreats from a blame: the latest blamed entry leaves, with what rested on it for support, and its value is
@@ -43,15 +44,15 @@ impl<M: Measure> Planner<M> {
         self.best.map(|best| best.cost)
     }
 
-    /// A step that picks a decision: its values are tested, and the smallest free one enters the trail, or all are
+    /// A step that picks the decision of a domain: its values are tested, and the smallest free one enters the trail, or all are
     /// excluded and the step is a dead end.
-    fn extend(&mut self, decision: u8)
-        requires known { decision < length (account_of self.old).book.decisions }
-        requires idle { chosen (account_of self.old).trail decision ≡ 0 }
-        ensures { account_of self.new ≡ extend M.meaning (account_of self.old) decision }
+    fn extend(&mut self, domain: Domain)
+        requires known { IsDomain (account_of self.old).book domain }
+        requires idle { chosen (account_of self.old).trail domain.decision ≡ 0 }
+        ensures { account_of self.new ≡ extend M.meaning (account_of self.old) domain.decision }
     {
-        let domain = self.book.domain(decision);
         let best = self.best_cost();
+        let decision = domain.decision;
         let plan = self.trail.plan();
         let trials = Trials {
             book: &self.book,
@@ -85,7 +86,7 @@ impl<M: Measure> Planner<M> {
         ensures { account_of self.new ≡ step M.meaning (account_of self.old) }
     {
         match pick_decision(&self.book, &self.ranks, self.trail.plan()) {
-            Some(decision) => self.extend(decision),
+            Some(domain) => self.extend(domain),
             None => self.conclude(),
         }
     }

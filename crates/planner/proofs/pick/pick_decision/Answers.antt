@@ -1,9 +1,9 @@
-use Rattle.std.proofs.Common.{◌<◌, arith}
+use Rattle.std.proofs.Common.{◌<◌, arith, rules}
 use Rattle.account.specs.Steps.{waits}
 use Rattle.rules.specs.Conditions.{from_bytes}
 use Rattle.sets.specs.Members.{members}
 use Rattle.planner.specs.Books.{book_of}
-use Rattle.planner.proofs.Picks.{waiting_is, picked_more, picked_low}
+use Rattle.planner.proofs.Picks.{picked_domain, picked_low, picked_more, waiting_is}
 use Rattle.planner.proofs.pick.pick_decision.Goals as goal
 
 pub loop-i-preserved : goal.loop-i-preserved
@@ -19,3 +19,8 @@ loop-i-preserved c =
       picked_more ranks (waits b p) i c.loop-i.picked c.preferred-picked.result c.is_waiting-waiting.result waits-here c.loop-i.invariant.0 c.preferred-picked.ensures,
       picked_low ranks c.is_waiting-waiting.result i 64 c.loop-i.picked c.preferred-picked.result c.preferred-picked.ensures low c.loop-i.invariant.1,
     )
+
+pub returns-clause-picked : goal.returns-clause-picked
+returns-clause-picked c =
+    picked_domain (book_of c.args.book.now) (from_bytes c.args.ranks.now) (waits (book_of c.args.book.now) (from_bytes c.args.plan.now)) c.in_ok-picked.field-0 c.domain.result
+    (search rules) c.domain.ensures

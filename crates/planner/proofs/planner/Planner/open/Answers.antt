@@ -1,4 +1,5 @@
-use Rattle.std.proofs.Common.{sym, ap, ◌∙◌}
+use Rattle.std.proofs.Common.{ℕ, sym, refl, ap, ◌∙◌}
+use mathlib.Core.Path.{fun_ext}
 use Rattle.std.proofs.lemmas.Result.{err_from_is_err_and}
 use Rattle.account.proofs.Planning.{planning}
 use Rattle.account.specs.Accounts.{fresh}
@@ -6,7 +7,10 @@ use Rattle.measure.proofs.Laws.{Laws}
 use Rattle.rules.proofs.Grounds.{accepted_none, refused_old}
 use Rattle.rules.specs.Judging.{open_refusal}
 use Rattle.rules.specs.Refusals.{unless_refused}
+use Rattle.tables.proofs.Entering.{zeros}
+use Rattle.planner.specs.Books.{over_decisions}
 use Rattle.planner.specs.Planners.{account_of}
+use Rattle.planner.proofs.Called.{parts_same}
 use Rattle.planner.proofs.planner.Planner.open.Given.{Over}
 use Rattle.planner.proofs.planner.Planner.open.Goals as goal
 
@@ -23,21 +27,26 @@ laws g =
       parts = g.met.M.Measure.joined_is_at_least_each_part;
     }
 
-pub returns-in_err-check_decisions : goal.returns-in_err-check_decisions
-returns-in_err-check_decisions g c =
+pub returns-in_err-open : goal.returns-in_err-open
+returns-in_err-open g c =
+    let ds = c.args.decisions.now in
+    let a = account_of c.args.self.now in
     let p = err_from_is_err_and c.from_residual.result c.from_residual.ensures.1 in
+    let same = c.in_err-open.ensures.after ∙ sym (refused_old (open_refusal ds) _ a.book (over_decisions ds) (sym c.in_err-open.ensures.value)) in
     record {
-      value = rw (p.1, p.2) c.in_err-check_decisions.ensures;
-      after = refused_old (open_refusal c.args.decisions.now) _ _ _ (sym c.in_err-check_decisions.ensures);
-      law = λ ok. planning g.M.Measure.meaning (laws g) c.args.decisions.now ok;
+      value = rw (p.1, p.2) c.in_err-open.ensures.value;
+      after = parts_same _ a same refl refl refl refl refl ∙ refused_old (open_refusal ds) _ a (fresh ds) (sym c.in_err-open.ensures.value);
+      law = λ ok. planning g.M.Measure.meaning (laws g) ds ok;
     }
 
 pub returns : goal.returns
 returns g c =
     let ds = c.args.decisions.now in
-    let none = accepted_none (open_refusal ds) _ (sym c.in_ok-check_decisions.ensures) in
+    let a = account_of c.args.self.now in
+    let none = accepted_none (open_refusal ds) _ (sym c.in_ok-open.ensures.value) in
+    let opened = c.in_ok-open.ensures.after ∙ ap (λ o. unless_refused o a.book (over_decisions ds)) none in
     record {
-      value = c.in_ok-check_decisions.ensures;
-      after = c.reset.ensures ∙ ap (λ o. unless_refused o (account_of c.args.self.now) (fresh ds)) (sym none);
+      value = c.in_ok-open.ensures.value;
+      after = parts_same _ (fresh ds) opened (fun_ext (λ (d : ℕ). zeros d)) c.clear.ensures c.clear-2.ensures refl refl ∙ ap (λ o. unless_refused o a (fresh ds)) (sym none);
       law = λ ok. planning g.M.Measure.meaning (laws g) ds ok;
     }

@@ -1,4 +1,4 @@
-use Rattle.std.proofs.Common.{ℕ, length, set, refl, ap, ◌∙◌, arith}
+use Rattle.std.proofs.Common.{ℕ, ◌<◌, length, set, refl, ap, ◌∙◌, arith}
 use Rattle.account.specs.Calls.{leaves, rank}
 use Rattle.rules.specs.Conditions.{from_bytes}
 use Rattle.rules.specs.declared.refusal.Refusal.TheVariants.{UnknownDecision}
@@ -10,7 +10,8 @@ pub returns : goal.returns
 returns g c =
     let m = g.M.Measure.meaning in
     let a = account_of c.args.self.now in
-    let (same, size, known) = c.in_ok-domain.ensures.known in
-    let (told, left) = accepts m a (rank c.args.decision c.args.rank) (known_decision (length a.book.decisions) c.args.decision UnknownDecision known) in
-    let ranked = ap (λ (d : ℕ). from_bytes (set c.args.self.now.ranks d c.args.rank)) same ∙ rank_set c.args.self.now.ranks c.args.decision c.args.rank (omega (arith, c.args.self.now.ranked, known, c.args.self.now.book.few)) in
+    let (same, (size, known)) = c.in_ok-domain.ensures.known in
+    let low : c.args.decision < length a.book.decisions = omega (arith, same, known) in
+    let (told, left) = accepts m a (rank c.args.decision c.args.rank) (known_decision (length a.book.decisions) c.args.decision UnknownDecision low) in
+    let ranked = ap (λ (d : ℕ). from_bytes (set c.args.self.now.ranks d c.args.rank)) same ∙ rank_set c.args.self.now.ranks c.args.decision c.args.rank (omega (arith, low, c.args.self.now.book.few)) in
     record { value = told; after = parts_same _ (leaves m a (rank c.args.decision c.args.rank)) refl ranked refl refl refl refl ∙ left }

@@ -1,0 +1,32 @@
+use Rattle.planner.specs.Books.{book_of}
+use Rattle.planner.specs.Planners.{account_of}
+use Rattle.planner.proofs.Called.{place_left}
+use Rattle.planner.proofs.Reopened.{activate_withdrawn, forbid_withdrawn, price_withdrawn}
+use Rattle.planner.proofs.planner.Planner.withdraw.Goals as goal
+
+pub returns-in-Forbid : goal.returns-in-Forbid
+returns-in-Forbid g c =
+    let m = g.M.Measure.meaning in
+    let a = account_of c.args.self.now in
+    let x = account_of c.reopen_afresh.new.self in
+    let changed = forbid_withdrawn m a x (book_of c.remove.new.self) c.args.kind c.args.place c.in-Forbid.is c.remove.ensures c.reopen_afresh.ensures in
+    let (told, left) = place_left m a c.args.kind c.args.place c.rows.result.now x c.rows.ensures.value c.if-place-rows.false changed in
+    record { value = told; after = left }
+
+pub returns-in-Activate : goal.returns-in-Activate
+returns-in-Activate g c =
+    let m = g.M.Measure.meaning in
+    let a = account_of c.args.self.now in
+    let x = account_of c.reopen_rejudged.new.self in
+    let changed = activate_withdrawn m a x (book_of c.remove.new.self) c.args.kind c.args.place c.in-Activate.is c.remove.ensures c.reopen_rejudged.ensures in
+    let (told, left) = place_left m a c.args.kind c.args.place c.rows.result.now x c.rows.ensures.value c.if-place-rows.false changed in
+    record { value = told; after = left }
+
+pub returns-in-Price : goal.returns-in-Price
+returns-in-Price g c =
+    let m = g.M.Measure.meaning in
+    let a = account_of c.args.self.now in
+    let x = account_of c.reopen_repriced.new.self in
+    let changed = price_withdrawn m a x (book_of c.remove.new.self) c.args.kind c.args.place c.in-Price.is c.remove.ensures c.reopen_repriced.ensures in
+    let (told, left) = place_left m a c.args.kind c.args.place c.rows.result.now x c.rows.ensures.value c.if-place-rows.false changed in
+    record { value = told; after = left }
