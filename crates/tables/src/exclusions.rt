@@ -20,6 +20,23 @@ pub struct Exclusions {
     reasons: [u64; 1024],
 }
 
+/// Which exclusions stay: those whose reason has no barred decision, and unless `resting` only those that do not rest on
+/// the best.
+#[derive(Clone, Copy)]
+struct Sparing {
+    barred: DecisionSet,
+    resting: bool,
+}
+
+impl Sparing {
+    /// Whether an exclusion stays.
+    fn spares(self, reason: DecisionSet, rests: bool) -> bool
+        ensures { result ≡ spared (members self.barred) self.resting (record { reason = members reason; rests = rests }) }
+    {
+        !reason.meets(self.barred) && (self.resting || !rests)
+    }
+}
+
 /// Where the reason of a value stands.
 // By two numbers: with a `Choice` made at each look-up a step takes a twentieth longer.
 fn cell(d: u8, v: u8) -> usize
@@ -135,7 +152,10 @@ impl Exclusions {
     pub fn forget(&mut self, left: DecisionSet)
         ensures { exclusions_of self.new ≡ (λ d v. unless_meets (members left) (exclusions_of self.old d v)) }
     {
-        self.retain(left, true);
+        self.retain(Sparing {
+            barred: left,
+            resting: true,
+        });
     }
 
     /// Takes every exclusion out whose reason has one of the first `count` decisions, and unless `resting` those that
@@ -144,29 +164,31 @@ impl Exclusions {
         requires { count ≤ 64 }
         ensures { exclusions_of self.new ≡ (λ d v. keep_if (λ e. empty_below e.reason count && (resting || not e.rests)) (exclusions_of self.old d v)) }
     {
-        self.retain(DecisionSet::first(count), resting);
+        let barred = DecisionSet::first(count);
+        self.retain(Sparing { barred, resting });
     }
 
-    /// Takes every exclusion out whose reason has a decision of a set, and unless `resting` those that rest on the best.
-    fn retain(&mut self, barred: DecisionSet, resting: bool)
-        ensures { exclusions_of self.new ≡ (λ d v. keep_if (spared (members barred) resting) (exclusions_of self.old d v)) }
+    /// Takes every exclusion out that is not spared.
+    fn retain(&mut self, sparing: Sparing)
+        ensures { exclusions_of self.new ≡ (λ d v. keep_if (spared (members sparing.barred) sparing.resting) (exclusions_of self.old d v)) }
     {
         // By number: `spared_values` reads all three arrays, so none of them can be lent for writing meanwhile.
         for d in 0..64u8 {
             let at = d as usize;
             if self.excluded[at].bits != 0 {
-                self.excluded[at] = self.spared_values(d, barred, resting);
+                self.excluded[at] = self.spared_values(d, sparing);
             }
         }
     }
 
     /// The excluded values of a decision that are spared.
-    fn spared_values(&self, d: u8, barred: DecisionSet, resting: bool) -> ValueSet
-        ensures { values result ≡ (λ v. not (is_free (keep_if (spared (members barred) resting) (exclusions_of self.now d v)))) }
+    fn spared_values(&self, d: u8, sparing: Sparing) -> ValueSet
+        ensures { values result ≡ (λ v. not (is_free (keep_if (spared (members sparing.barred) sparing.resting) (exclusions_of self.now d v)))) }
     {
+        // By a loop, which LLVM unrolls: with a chain of `filter` and `fold` a step takes a thirtieth longer.
         let mut stays = ValueSet::empty();
         for v in 1..17u8 {
-            if self.spares(d, v, barred, resting) {
+            if self.spares(d, v, sparing) {
                 stays = stays.with(v);
             }
         }
@@ -174,9 +196,10 @@ impl Exclusions {
     }
 
     /// Whether a value is excluded and spared.
-    fn spares(&self, d: u8, v: u8, barred: DecisionSet, resting: bool) -> bool
-        ensures { result ≡ not (is_free (keep_if (spared (members barred) resting) (exclusions_of self.now d v))) }
+    fn spares(&self, d: u8, v: u8, sparing: Sparing) -> bool
+        ensures { result ≡ not (is_free (keep_if (spared (members sparing.barred) sparing.resting) (exclusions_of self.now d v))) }
     {
-        self.get(d, v).is_some_and(|(reason, rests)| !reason.meets(barred) && (resting || !rests))
+        self.get(d, v)
+            .is_some_and(|(reason, rests)| sparing.spares(reason, rests))
     }
 }

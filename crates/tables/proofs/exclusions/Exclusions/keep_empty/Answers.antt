@@ -9,4 +9,4 @@ pub returns : goal.returns
 returns c =
     let whole : min c.args.count 64 ≡ c.args.count = omega arith in
     c.retain.ensures
-    ∙ fun_ext (λ (d : ℕ). fun_ext (λ (v : ℕ). keep_empty_is (members c.first.result) c.args.count c.args.resting c.requires (rw whole at c.first.ensures) (exclusions_of c.args.self.now d v)))
+    ∙ fun_ext (λ (d : ℕ). fun_ext (λ (v : ℕ). keep_empty_is (members c.first-barred.result) c.args.count c.args.resting c.requires (rw whole at c.first-barred.ensures) (exclusions_of c.args.self.now d v)))

@@ -8,7 +8,7 @@ use Rattle.tables.proofs.exclusions.Exclusions.retain.Goals.{then-self-at-ne0, e
 
 pub loop-d-preserved : goal.loop-d-preserved
 loop-d-preserved c =
-    let keep = spared (members c.args.barred) c.args.resting in
+    let keep = spared (members c.args.sparing.barred) c.args.sparing.resting in
     let x = c.loop-d.self in
     let d = c.loop-d.d in
     through_more keep (exclusions_of c.args.self.now) (exclusions_of x) (exclusions_of c.if-self-at-ne0.self) d c.loop-d.invariant
@@ -18,4 +18,4 @@ loop-d-preserved c =
     ])
 
 pub returns : goal.returns
-returns c = through_all (spared (members c.args.barred) c.args.resting) c.args.self.now (exclusions_of c.loop-d.self) c.loop-d.d c.loop-d-test.false c.loop-d.invariant
+returns c = through_all (spared (members c.args.sparing.barred) c.args.sparing.resting) c.args.self.now (exclusions_of c.loop-d.self) c.loop-d.d c.loop-d-test.false c.loop-d.invariant

@@ -6,4 +6,4 @@ use Rattle.tables.specs.Excluded.{exclusions_of, spared}
 use Rattle.tables.proofs.exclusions.Exclusions.spared_values.Given as goal
 
 abbrev pub invariant-loop-v : goal.invariant-loop-v
-invariant-loop-v l = values l.stays ≡ (λ x. ltb x l.v && not (is_free (keep_if (spared (members l.barred) l.resting) (exclusions_of l.self l.d x))))
+invariant-loop-v l = values l.stays ≡ (λ x. ltb x l.v && not (is_free (keep_if (spared (members l.sparing.barred) l.sparing.resting) (exclusions_of l.self l.d x))))
