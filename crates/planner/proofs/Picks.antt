@@ -1,41 +1,107 @@
--- The decision that is preferred, one more looked at.
-use Rattle.std.proofs.Common.{◌≡◌, ℕ, ◌+◌, ◌<◌, ◌≤◌, Bool, true, false, not, ◌&&◌, ◌||◌, ltb, List, length, IfSome, MatchOption, Some, None, Option, sym, ap, ◌∙◌, subst, ap₂, add-one, arith}
-use Rattle.std.proofs.lemmas.Bool.{cond_both}
+-- The decision that is picked, of a list of those that wait.
+use Rattle.std.proofs.Common.{◌≡◌, ℕ, zero, suc, ◌<◌, ◌≤◌, Bool, true, false, cond, eqb, ltb, List, [], ◌∷◌, ◌++◌, map, filter, length, MatchOption, Some, None, Option, ◌⊎◌, inl, inr, sym, refl, ap, ◌∙◌, subst, ap₂, add-one, arith}
+use Rattle.std.specs.Borrow.{Bor}
+use Rattle.std.specs.Fn.{CalledAt}
+use Rattle.std.specs.Iterator.{Drains, DrainsIf, KeyTurn, PicksMinByKey}
+use Rattle.std.specs.List.{FoldsTo, fold, range_with_len}
 use Rattle.std.specs.Option.{option_map}
+use Rattle.std.specs.Ordering.{min_by_ordering, nat_cmp}
+use Rattle.std.specs.declared.cmp.Ordering.TheVariants.{Less, Equal, Greater}
+use Rattle.std.proofs.lemmas.Bool.{cases_order, eq-eqb, le-ltb, lt-ltb, ne_eqb}
+use Rattle.std.proofs.lemmas.Iterator.{YieldsList, items_from_drains}
+use Rattle.std.proofs.lemmas.List.{map-id}
+use Rattle.std.proofs.lemmas.List.Elements.{filter-append}
+use Rattle.std.proofs.lemmas.List.FromFn.{map-range_with_len_more}
+use Rattle.std.proofs.lemmas.List.Sums.{fold-append}
+use denote.Param.Members.{Mut}
 use Rattle.account.proofs.Finds.{Picked, picked}
-use Rattle.account.specs.Steps.{pick, prefer, waits}
-use Rattle.rules.specs.Conditions.{Plan}
-use Rattle.rules.specs.Plans.{Book, enables, on_at}
-use Rattle.rules.specs.declared.decision.Decision.{Decision}
-use Rattle.rules.specs.declared.row.Row.{Row}
+use Rattle.account.specs.Steps.{pick, prefer}
+use Rattle.rules.specs.Plans.{Book}
 use Rattle.tables.specs.declared.domain.Domain.{Domain}
 use Rattle.planner.specs.Books.{IsDomain}
 
--- whether a decision waits, by the decisions and rows that were read
-pub waiting_is : (b : Book) (ds : List Decision) (rs : List Row) (p : Plan) (i : ℕ) (w member : Bool) → ds ≡ b.decisions → rs ≡ b.activates → member ≡ enables rs p i
-    → w ≡ (not (ltb 0 (p i)) && (on_at ds i || member)) → w ≡ waits b p i
-waiting_is b ds rs p i w member d r e h =
-    h ∙ ap (λ (t : Bool). not (ltb 0 (p i)) && (on_at ds i || t)) (e ∙ ap (λ (xs : List Row). enables xs p i) r)
-    ∙ ap (λ (xs : List Decision). not (ltb 0 (p i)) && (on_at xs i || enables b.activates p i)) d
+-- the lesser of two is the second only where it is below the first
+lesser : {A : Type 0} (a b : ℕ) (x z : A) → min_by_ordering (nat_cmp a b) x z ≡ cond (ltb b a) z x
+lesser {A} a b x z = by (cases_order a b)
+  where
+    at : Bool → Bool → A
+    at s t = min_by_ordering (cond s Less (cond t Equal Greater)) x z
 
--- one decision more
-pub picked_more : (ranks : ℕ → ℕ) (waiting : ℕ → Bool) (i : ℕ) (o r : Option ℕ) (w : Bool) → w ≡ waiting i → o ≡ pick ranks waiting i → r ≡ prefer ranks w i o → r ≡ pick ranks waiting (i + 1)
-picked_more ranks waiting i o r w e f h =
-    h ∙ ap₂ (λ (t : Bool) (x : Option ℕ). prefer ranks t i x) e f ∙ ap (pick ranks waiting) (sym (add-one i))
+    by : (a ≡ b) ⊎ ((a < b) ⊎ (b < a)) → at (ltb a b) (eqb a b) ≡ cond (ltb b a) z x
+    by (inl e) = ap₂ at (le-ltb a b (omega (arith, e))) (eq-eqb a b e) ∙ sym (ap (λ (t : Bool). cond t z x) (le-ltb b a (omega (arith, e))))
+    by (inr (inl l)) = ap (λ (s : Bool). at s (eqb a b)) (lt-ltb a b l) ∙ sym (ap (λ (t : Bool). cond t z x) (le-ltb b a (omega (arith, l))))
+    by (inr (inr g)) = ap₂ at (le-ltb a b (omega (arith, g))) (ne_eqb a b (λ (e : a ≡ b). omega (arith, e, g))) ∙ sym (ap (λ (t : Bool). cond t z x) (lt-ltb b a g))
 
--- what is preferred is one of the first n
-low_preferred : (ranks : ℕ → ℕ) (w : Bool) (i n : ℕ) (o : Option ℕ) → i < n → IfSome o (λ d. d < n) → IfSome (prefer ranks w i o) (λ d. d < n)
-low_preferred ranks false i n o l h = h
-low_preferred ranks true i n None l h = l
-low_preferred ranks true i n (Some d) l h =
-    cond_both (ltb (ranks i) (ranks d)) (Some i) (Some d) (λ o. IfSome o (λ k. k < n)) (λ e. l) (λ e. h)
+module _ (ranks : ℕ → ℕ) where
+  -- a waiting decision more
+  abbrev more : Option ℕ → ℕ → Option ℕ
+  more o d = prefer ranks true d o
 
-pub picked_low : (ranks : ℕ → ℕ) (w : Bool) (i n : ℕ) (o r : Option ℕ) → r ≡ prefer ranks w i o → i < n → IfSome o (λ d. d < n) → IfSome r (λ d. d < n)
-picked_low ranks w i n o r e l h = rw e (low_preferred ranks w i n o l h)
+  -- so many numbers, and the next
+  next_number : (n : ℕ) → range_with_len 0 (suc n) ≡ range_with_len 0 n ++ n ∷ []
+  next_number n =
+      sym (map-id (range_with_len 0 (suc n))) ∙ ap (λ (k : ℕ). map (λ (x : ℕ). x) (range_with_len 0 k)) (sym (add-one n))
+      ∙ map-range_with_len_more (λ (x : ℕ). x) 0 n n (omega arith) ∙ ap (λ (xs : List ℕ). xs ++ n ∷ []) (map-id (range_with_len 0 n))
+
+  -- the pick of the first n is what is preferred of those that wait
+  preferred_of : (waiting : ℕ → Bool) (n : ℕ) → fold more None (filter waiting (range_with_len 0 n)) ≡ pick ranks waiting n
+  preferred_of waiting zero = refl
+  preferred_of waiting (suc n) =
+      ap (λ (xs : List ℕ). fold more None (filter waiting xs)) (next_number n)
+      ∙ ap (fold more None) (filter-append waiting (range_with_len 0 n) (n ∷ []))
+      ∙ fold-append more None (filter waiting (range_with_len 0 n)) (filter waiting (n ∷ []))
+      ∙ ap (λ (o : Option ℕ). fold more o (filter waiting (n ∷ []))) (preferred_of waiting n)
+      ∙ last (waiting n) (pick ranks waiting n)
+    where
+      last : (b : Bool) (o : Option ℕ) → fold more o (cond b (n ∷ []) []) ≡ prefer ranks b n o
+      last true o = refl
+      last false o = refl
+
+  -- what decides only below n
+  pub pick_same : (t u : ℕ → Bool) (n : ℕ) → ((d : ℕ) → d < n → t d ≡ u d) → pick ranks t n ≡ pick ranks u n
+  pick_same t u zero h = refl
+  pick_same t u (suc n) h = ap₂ (λ (b : Bool) (o : Option ℕ). prefer ranks b n o) (h n (omega arith)) (pick_same t u n (λ d l. h d (omega arith)))
+
+  module _ {F : Type 0} (g : Mut F (Bor ℕ × Unit {0}) ℕ) (f : F) (ranked : (x k : ℕ) (q : F) → CalledAt g f x k q → (q ≡ f) × (k ≡ ranks x)) where
+    -- the turns over later decisions
+    turns : (xs : List ℕ) (p : F) (k x : ℕ) (q : F × ℕ) (y : ℕ) → p ≡ f → k ≡ ranks x
+        → FoldsTo {P = (F × ℕ) × ℕ} (KeyTurn min_by_ordering min_by_ordering g nat_cmp) ((p, k), x) xs (q, y) → fold more (Some x) xs ≡ Some y
+    turns [] p k x q y e h c = ap (λ (z : (F × ℕ) × ℕ). Some z.1) c
+    turns (z ∷ zs) p k x q y e h (j, (kz, o, called, cmp, key, item), rest) =
+        let (same, rank) = ranked z kz j.0.0 (subst (λ (w : F). CalledAt g w z kz j.0.0) e called) in
+        let order : o ≡ nat_cmp (ranks x) (ranks z) = sym cmp ∙ ap₂ nat_cmp h rank in
+        let chosen : j.1 ≡ cond (ltb (ranks z) (ranks x)) z x = item ∙ ap (λ t. min_by_ordering t x z) order ∙ lesser (ranks x) (ranks z) x z in
+        let its : j.0.1 ≡ ranks j.1 =
+        key ∙ ap₂ (λ t (w : ℕ × ℕ). min_by_ordering t w.0 w.1) order (ap₂ (λ (a b : ℕ). (a, b)) h rank) ∙ lesser (ranks x) (ranks z) (ranks x) (ranks z)
+        ∙ rank_of (ltb (ranks z) (ranks x)) z x ∙ ap ranks (sym chosen) in
+        ap (λ (o : Option ℕ). fold more o zs) (one (ltb (ranks z) (ranks x)) z x ∙ ap Some (sym chosen)) ∙ turns zs j.0.0 j.0.1 j.1 q y same its rest
+      where
+        rank_of : (t : Bool) (z x : ℕ) → cond t (ranks z) (ranks x) ≡ ranks (cond t z x)
+        rank_of true z x = refl
+        rank_of false z x = refl
+
+        one : (t : Bool) (z x : ℕ) → cond t (Some z) (Some x) ≡ Some (cond t z x)
+        one true z x = refl
+        one false z x = refl
+
+    drained_if : {S : Type 0} (steps : S → Option ℕ → S → Type 0) (s : S) (xs : List ℕ) → Drains steps s xs → DrainsIf steps (Unit {0}) s xs
+    drained_if steps s xs (u, (t, y, h)) = (t, y, λ _. (u, h))
+
+    -- the first waiting decision of least rank is the pick
+    pub least_picked : {S : Type 0} {steps : S → Option ℕ → S → Type 0} {s : S} (waiting : ℕ → Bool) (n : ℕ) (r : Option ℕ)
+        → PicksMinByKey steps g nat_cmp s f r → YieldsList steps (λ x. x) s (filter waiting (range_with_len 0 n)) → r ≡ pick ranks waiting n
+    least_picked {steps = steps} {s} waiting n None drained all =
+        let items = items_from_drains [] (drained_if steps s [] drained) all in
+        ap (fold more None) items ∙ preferred_of waiting n
+    least_picked {steps = steps} {s} waiting n (Some y) (x, xs, k, f', q, drained, called, turned) all =
+        let items = sym (map-id (x ∷ xs)) ∙ items_from_drains (x ∷ xs) (drained_if steps s (x ∷ xs) drained) all in
+        let (same, rank) = ranked x k f' called in
+        sym (turns xs f' k x q y same rank turned) ∙ ap (fold more None) items ∙ preferred_of waiting n
 
 -- the domain of a picked decision
-pub picked_domain : (b : Book) (ranks : ℕ → ℕ) (waiting : ℕ → Bool) (d : ℕ) (o : Option Domain) → Some d ≡ pick ranks waiting (length b.decisions)
-    → MatchOption o (length b.decisions ≤ d) (λ x. (x.decision ≡ d) × IsDomain b x) → option_map (λ x. x.decision) o ≡ pick ranks waiting (length b.decisions)
-picked_domain b ranks waiting d None e h =
+pub picked_domain : (b : Book) (ranks : ℕ → ℕ) (waiting : ℕ → Bool) (o : Option ℕ) (r : Option Domain) → o ≡ pick ranks waiting (length b.decisions)
+    → MatchOption o (r ≡ None) (λ d. MatchOption r (length b.decisions ≤ d) (λ x. (x.decision ≡ d) × IsDomain b x)) → option_map (λ x. x.decision) r ≡ pick ranks waiting (length b.decisions)
+picked_domain b ranks waiting None r e h = ap (option_map (λ (x : Domain). x.decision)) h ∙ e
+picked_domain b ranks waiting (Some d) None e h =
     absurd (omega (arith, h, (subst (Picked waiting (length b.decisions)) (sym e) (picked ranks waiting (length b.decisions))).0))
-picked_domain b ranks waiting d (Some x) e h = ap Some h.0 ∙ e
+picked_domain b ranks waiting (Some d) (Some x) e h = ap Some h.0 ∙ e
