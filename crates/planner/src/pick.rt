@@ -8,8 +8,8 @@ ghost use Rattle.sets.specs.Members.{members};
 ghost use Rattle.planner.specs.Books.{IsDomain, book_of};
 
 use crate::book::Book;
-use rules::{Decision, Kind, value_of};
-use scans::{enabled, enabler};
+use rules::{Decision, EachRow, Kind, enabled, value_of};
+use scans::enabler;
 use sets::DecisionSet;
 use tables::Domain;
 
@@ -18,7 +18,7 @@ fn is_on(decisions: &[Decision], decision: u8) -> bool
     ensures { result ≡ on_at decisions.now decision }
 {
     decisions
-        .get(decision as usize)
+        .get(usize::from(decision))
         .is_some_and(|decision| decision.on)
 }
 
@@ -35,7 +35,7 @@ pub fn pick_decision(book: &Book, ranks: &[u8; 64], plan: &[u8]) -> Option<Domai
     ensures domain { IfSome result (IsDomain (book_of book.now)) }
 {
     let decisions = book.decisions();
-    let targets = enabled(book.rows(Kind::Activate), plan);
+    let targets = enabled::<EachRow>(book.rows(Kind::Activate), plan);
     (0..decisions.len() as u8)
         .filter(|decision| is_waiting(decisions, targets, plan, *decision))
         .min_by_key(|decision| value_of(ranks, *decision))

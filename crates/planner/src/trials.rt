@@ -14,6 +14,7 @@ use sets::DecisionSet;
 use tables::{Choice, Domain, Exclusions};
 
 /// What the values of a decision are tested by: the rules, and the best's cost if one is held.
+// Plan, costs and exclusions are no fields: the methods change them, and each would have to say that the rest stays.
 #[derive(Clone, Copy)]
 pub struct Trials<'a, M> {
     pub book: &'a Book,
@@ -24,6 +25,7 @@ pub struct Trials<'a, M> {
 impl<M: Measure> Trials<'_, M> {
     /// Why a plan is excluded by its cost, as far as the decision goes: it reaches the best's, for the other decisions
     /// of the kept price rules.
+    // A pair, as an exclusion is to be answered.
     fn try_cost(
         &self,
         best: M,
@@ -87,6 +89,7 @@ impl<M: Measure> Trials<'_, M> {
     {
         let mut trial = *plan;
         for v in 1..=self.domain.size {
+            // `as` at an index: `usize::from` is longer and says no more.
             trial[self.domain.decision as usize] = v;
             self.try_value(v, &trial, costs, exclusions);
         }

@@ -1,22 +1,14 @@
 //! What activate rules make active.
-ghost use Rattle.std.specs.Prelude.{◌≡◌, ℕ, ◌<◌, ◌&&◌, ◌==◌, find};
+ghost use Rattle.std.specs.Prelude.{◌≡◌, ◌&&◌, ◌==◌, find};
 ghost use Rattle.std.specs.Option.{option_map};
 ghost use Rattle.account.specs.Steps.{enabled_by};
 ghost use Rattle.rules.specs.Conditions.{from_bytes, met};
-ghost use Rattle.rules.specs.Plans.{enables};
 ghost use Rattle.scans.specs.Known.{Known};
 ghost use Rattle.sets.specs.Members.{members};
 
 use crate::names::named;
-use rules::{EachRow, Row};
+use rules::Row;
 use sets::DecisionSet;
-
-/// The targets of the rows that a plan meets.
-pub fn enabled(rows: &[Row], plan: &[u8]) -> DecisionSet
-    ensures { (d : ℕ) → d < 64 → members result d ≡ enables rows.now (from_bytes plan.now) d }
-{
-    rules::enabled::<EachRow>(rows, plan)
-}
 
 /// The first row with this target that a plan meets.
 fn first_activating<'a>(rows: &'a [Row], plan: &[u8], decision: u8) -> Option<&'a Row>

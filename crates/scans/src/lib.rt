@@ -7,7 +7,7 @@ mod lawful;
 mod names;
 mod prices;
 
-pub use activates::{enabled, enabler};
+pub use activates::enabler;
 pub use forbids::first_met;
 pub use lawful::is_lawful;
 pub use names::named;

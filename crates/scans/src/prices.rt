@@ -36,6 +36,7 @@ impl<M: Measure> SuffixCosts<M> {
     {
         let mut cost = M::neutral();
         self.after[rows.len()] = cost;
+        // One loop over the rows with their places, as this pass is to be written; so is the one below.
         for (i, row) in rows.iter().enumerate().rev() {
             cost = price_before(row, plan, cost);
             self.after[i] = cost;

@@ -57,11 +57,12 @@ impl Book {
     pub fn domain(&self, decision: u8) -> Option<Domain>
         ensures { MatchOption result (length (book_of self.now).decisions ≤ decision) (λ d. (d.decision ≡ decision) × IsDomain (book_of self.now) d) }
     {
-        let size = self.decisions().get(decision as usize)?.size;
+        let size = self.decisions().get(usize::from(decision))?.size;
         Some(Domain { decision, size })
     }
 
     /// The table of the rules of a kind.
+    // Twice, here and for changes: nothing is generic over how it is lent.
     fn table(&self, kind: Kind) -> &RuleTable
         ensures { table_rows result.now ≡ held (book_of self.now) kind }
     {
@@ -85,6 +86,7 @@ impl Book {
     }
 
     /// The rules of a kind, in place order.
+    // A slice with its facts, as the public call answers it: a type around it would be opened again at each use.
     pub fn rows(&self, kind: Kind) -> &[Row]
         ensures value { result.now ≡ held (book_of self.now) kind }
         ensures few { length result.now ≤ 256 }

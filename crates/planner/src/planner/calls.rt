@@ -88,6 +88,7 @@ impl<M: Measure> Planner<M> {
         ensures after { account_of self.new ≡ after M.meaning (account_of self.old) (rank_call decision rank) }
     {
         let domain = self.domain(decision)?;
+        // `as` at an index: `usize::from` is longer and says no more.
         self.ranks[domain.decision as usize] = rank;
         Ok(())
     }
@@ -143,7 +144,7 @@ impl<M: Measure> Planner<M> {
         ensures { says_excluded result ≡ answer M.meaning (account_of self.now) (exclusion decision value) }
     {
         let domain = self.domain(decision)?;
-        if value < 1 || value > domain.size {
+        if !(1..=domain.size).contains(&value) {
             return Err(Refusal::UnknownValue);
         }
         Ok(self.exclusions.get(decision, value))
