@@ -4,7 +4,7 @@ ghost use Rattle.rules.specs.Conditions.{from_bytes, met};
 ghost use Rattle.rules.specs.Plans.{enables, on_at, rounds, within};
 ghost use Rattle.sets.specs.Members.{members};
 
-use crate::{Counting, Decision, Row, value_of};
+use crate::{Counting, Decision, MOST_DECISIONS, Row, value_of};
 use sets::DecisionSet;
 use std::array;
 
@@ -35,7 +35,7 @@ fn choice(plan: &[u8], set: DecisionSet, decision: u8) -> u8
 }
 
 /// The plan's choices for the decisions of a set.
-fn choices(plan: &[u8], set: DecisionSet) -> [u8; 64]
+fn choices(plan: &[u8], set: DecisionSet) -> [u8; MOST_DECISIONS]
     ensures { from_bytes result ≡ within (members set) (from_bytes plan.now) }
 {
     array::from_fn(|decision| choice(plan, set, decision as u8))

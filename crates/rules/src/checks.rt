@@ -10,7 +10,7 @@ use crate::{Decision, Literal, Refusal, Row};
 pub const MOST_DECISIONS: usize = 64;
 
 /// The most values that a decision may have.
-const MOST_VALUES: u8 = 16;
+pub const MOST_VALUES: u8 = 16;
 
 /// Whether a decision has 1 to 16 values.
 fn is_sized(decision: &Decision) -> bool

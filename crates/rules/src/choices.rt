@@ -6,7 +6,7 @@ ghost use Rattle.rules.specs.Searches.{Chooses, FirstMisfit, misfit};
 ghost use Rattle.sets.specs.Members.{members};
 
 use crate::active::active_decisions;
-use crate::{Breach, Counting, Decision, Row, value_of};
+use crate::{Breach, Counting, Decision, MOST_DECISIONS, Row, value_of};
 use sets::DecisionSet;
 
 /// Whether a plan that gives a decision this value treats it lawfully; else how not.
@@ -51,8 +51,8 @@ pub fn check_choices<C: Counting>(
 ) -> Result<(), Breach>
     ensures { Chooses (take 64 decisions.now) (filter C.counted rows.now) (take 64 plan.now) result }
 {
-    let decisions = &decisions[0..decisions.len().min(64)];
-    let plan = &plan[0..plan.len().min(64)];
+    let decisions = &decisions[0..decisions.len().min(MOST_DECISIONS)];
+    let plan = &plan[0..plan.len().min(MOST_DECISIONS)];
     let active = active_decisions::<C>(decisions, rows, plan);
     check_each(decisions, active, plan)
 }
