@@ -13,14 +13,10 @@ fn marked(decisions: &[Decision]) -> DecisionSet
     requires { length decisions.now ≤ 64 }
     ensures { members result ≡ on_at decisions.now }
 {
-    // A fold over the decisions with their numbers, and filtered, is no shorter.
-    let mut set = DecisionSet::empty();
-    for (number, decision) in decisions.iter().enumerate() {
-        if decision.on {
-            set = set.with(number as u8);
-        }
-    }
-    set
+    (0..64u8)
+        .zip(decisions)
+        .filter(|(_, decision)| decision.on)
+        .fold(DecisionSet::empty(), |set, (number, _)| set.with(number))
 }
 
 /// The plan's choice for a decision if it is in a set, else 0.
@@ -52,14 +48,9 @@ fn fires<C: Counting>(row: &Row, plan: &[u8]) -> bool
 pub fn enabled<C: Counting>(rows: &[Row], plan: &[u8]) -> DecisionSet
     ensures { (d : ℕ) → d < 64 → members result d ≡ enables (filter C.counted rows.now) (from_bytes plan.now) d }
 {
-    // A fold over the rows that fire is no shorter.
-    let mut targets = DecisionSet::empty();
-    for row in rows {
-        if fires::<C>(row, plan) {
-            targets = targets.with(row.target);
-        }
-    }
-    targets
+    rows.iter()
+        .filter(|row| fires::<C>(row, plan))
+        .fold(DecisionSet::empty(), |set, row| set.with(row.target))
 }
 
 /// The active decisions: those marked on, and in as many rounds as there are decisions what their choices enable.
