@@ -34,6 +34,7 @@ fn choice(plan: &[u8], set: DecisionSet, decision: u8) -> u8
 fn choices(plan: &[u8], set: DecisionSet) -> [u8; MOST_DECISIONS]
     ensures { from_bytes result ≡ within (members set) (from_bytes plan.now) }
 {
+    // A cast: `from_fn` counts in `usize`, and a `try_from` here would say a failure that there is not.
     array::from_fn(|decision| choice(plan, set, decision as u8))
 }
 

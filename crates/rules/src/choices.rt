@@ -30,8 +30,7 @@ fn check_each(decisions: &[Decision], active: DecisionSet, plan: &[u8]) -> Resul
     requires { length decisions.now ≤ 64 }
     ensures { FirstMisfit decisions.now (members active) (from_bytes plan.now) (length decisions.now) result }
 {
-    for (i, decision) in decisions.iter().enumerate() {
-        let number = i as u8;
+    for (number, decision) in (0..64u8).zip(decisions) {
         check_choice(
             number,
             decision.size,
