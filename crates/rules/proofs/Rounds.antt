@@ -1,25 +1,18 @@
 -- The active decisions, as rounds over a set of the first 64 find them.
-use Rattle.std.proofs.Common.{◌≡◌, ℕ, zero, suc, ◌+◌, ◌-◌, ◌<◌, ◌≤◌, Bool, true, false, cond, ◌&&◌, ◌||◌, eqb, ltb, leb, ◌⊎◌, List, [], ◌∷◌, ◌++◌, length, filter, sym, refl, ap, ◌∙◌, ap₂, ⊎_elim, inl, inr, zero-le, arith}
+use Rattle.std.proofs.Common.{◌≡◌, ℕ, zero, suc, ◌+◌, ◌-◌, ◌<◌, ◌≤◌, Bool, true, false, cond, ◌&&◌, ◌||◌, eqb, ltb, leb, ◌⊎◌, List, [], ◌∷◌, length, filter, sym, refl, ap, ◌∙◌, ap₂, ⊎_elim, inl, inr, zero-le, arith}
 use mathlib.Core.Path.{fun_ext}
 use mathlib.Core.Bool.{and-true, and-false, or-false}
-use Rattle.std.specs.List.{list_any, range_with_len, zip}
-use Rattle.std.proofs.lemmas.List.Folds.{list_any-append}
+use Rattle.std.specs.List.{range_with_len, zip}
 use Rattle.std.proofs.lemmas.Bool.{eqb-true, eq-eqb, ne_eqb, and_right, cases_lt, cases_order, lt-ltb, lt-leb, le-leb}
+use Rattle.rules.proofs.Folds.{gathered}
 use Rattle.rules.specs.Conditions.{Plan, met}
 use Rattle.rules.specs.Plans.{Set, enables, grown, on_at, within}
 use Rattle.rules.specs.declared.decision.Decision.{Decision}
 use Rattle.rules.specs.declared.row.Row.{Row}
 
--- the numbers of decisions, of those below 64
-abbrev pub numbers_of : List (ℕ × Decision) → Set
-numbers_of ps x = list_any (λ p. eqb x p.0 && ltb p.0 64) ps
-
--- one more
-pub numbers_more : (ps : List (ℕ × Decision)) (p : ℕ × Decision) (s after : Set) → s ≡ numbers_of ps → after ≡ (λ x. s x || (eqb x p.0 && ltb p.0 64)) → after ≡ numbers_of (ps ++ p ∷ [])
-numbers_more ps p s after before new =
-    new
-    ∙ fun_ext (λ (x : ℕ). ap₂ (λ (a b : Bool). a || b) (ap (λ (f : Set). f x) before) (sym (or-false (eqb x p.0 && ltb p.0 64)))
-    ∙ sym (list_any-append (λ q. eqb x q.0 && ltb q.0 64) ps (p ∷ [])))
+-- the numbers of numbered decisions
+abbrev numbers_of : List (ℕ × Decision) → Set
+numbers_of ps = gathered (λ p. p.0) ps
 
 -- decisions numbered from n on, of which those that are marked on are kept
 numbered : (n m : ℕ) (ds : List Decision) (x : ℕ) → length ds ≤ m → n + m ≤ 64 → numbers_of (filter (λ p. p.1.on) (zip (range_with_len n m) ds)) x ≡ (leb n x && on_at ds (x - n))
@@ -54,7 +47,7 @@ numbered n (suc m) (d ∷ ds) x few low =
 numbered n zero (d ∷ ds) x few low = absurd (omega arith)
 
 -- the marked ones of 64 decisions at most
-pub numbers_marked : (ds : List Decision) → length ds ≤ 64 → numbers_of (filter (λ p. p.1.on) (zip (range_with_len 0 64) ds)) ≡ on_at ds
+pub numbers_marked : (ds : List Decision) → length ds ≤ 64 → gathered (λ p. p.0) (filter (λ p. p.1.on) (zip (range_with_len 0 64) ds)) ≡ on_at ds
 numbers_marked ds few = fun_ext (λ (x : ℕ). numbered 0 64 ds x few (omega arith) ∙ ap₂ (λ (b : Bool) (k : ℕ). b && on_at ds k) (le-leb 0 x zero-le) (omega arith))
 
 module _ (p : Plan) (idle : (d : ℕ) → 64 ≤ d → p d ≡ 0) (s t : Set) (same : (d : ℕ) → d < 64 → s d ≡ t d) where
@@ -82,26 +75,24 @@ target_low d t l = go (eqb d t) refl
     go true e = lt-ltb t 64 (omega (arith, eqb-true d t e))
     go false e = refl
 
--- whether a decision is the target of one of these rows
-abbrev pub aimed : List Row → Set
-aimed rs d = list_any (λ r. eqb d r.target) rs
-
--- one more row's target is gathered
-pub aimed_more : (rs : List Row) (r : Row) (s after : Set) → ((d : ℕ) → d < 64 → s d ≡ aimed rs d) → after ≡ (λ x. s x || (eqb x r.target && ltb r.target 64)) → (d : ℕ) → d < 64 → after d ≡ aimed (rs ++ r ∷ []) d
-aimed_more rs r s after before new d low =
-    ap (λ (f : Set). f d) new ∙ ap₂ (λ (a b : Bool). a || b) (before d low) (target_low d r.target low ∙ sym (or-false (eqb d r.target)))
-    ∙ sym (list_any-append (λ x. eqb d x.target) rs (r ∷ []))
+-- the targets of rows
+abbrev aimed : List Row → Set
+aimed rs = gathered (λ r. r.target) rs
 
 -- the targets of the rows that count and are met are those that are enabled
-pub aimed_enabled : (k : Row → Bool) (p : Plan) (rs : List Row) (d : ℕ) → aimed (filter (λ r. k r && met p r) rs) d ≡ enables (filter k rs) p d
-aimed_enabled k p [] d = refl
-aimed_enabled k p (r ∷ rs) d = at (k r) (met p r) refl (aimed_enabled k p rs d)
+pub aimed_enabled : (k : Row → Bool) (p : Plan) (rs : List Row) (d : ℕ) → d < 64 → gathered (λ r. r.target) (filter (λ r. k r && met p r) rs) d ≡ enables (filter k rs) p d
+aimed_enabled k p [] d low = refl
+aimed_enabled k p (r ∷ rs) d low = at (k r) (met p r) refl (aimed_enabled k p rs d low)
   where
     later : Bool
     later = enables (filter k rs) p d
 
+    -- the row's own target, with whether it is met
+    own : (b : Bool) → met p r ≡ b → (eqb d r.target && b) ≡ (eqb d r.target && met p r)
+    own b e = ap (λ (x : Bool). eqb d r.target && x) (sym e)
+
     at : (a b : Bool) → met p r ≡ b → aimed (filter (λ x. k x && met p x) rs) d ≡ later
         → aimed (cond (a && b) (r ∷ filter (λ x. k x && met p x) rs) (filter (λ x. k x && met p x) rs)) d ≡ enables (cond a (r ∷ filter k rs) (filter k rs)) p d
     at false b e rest = rest
-    at true false e rest = rest ∙ ap (λ (x : Bool). x || later) (sym (and-false (eqb d r.target)) ∙ ap (λ (x : Bool). eqb d r.target && x) (sym e))
-    at true true e rest = ap₂ (λ (x y : Bool). x || y) (sym (and-true (eqb d r.target)) ∙ ap (λ (x : Bool). eqb d r.target && x) (sym e)) rest
+    at true false e rest = rest ∙ ap (λ (x : Bool). x || later) (sym (and-false (eqb d r.target)) ∙ own false e)
+    at true true e rest = ap₂ (λ (x y : Bool). x || y) (target_low d r.target low ∙ sym (and-true (eqb d r.target)) ∙ own true e) rest

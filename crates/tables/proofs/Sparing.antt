@@ -18,7 +18,7 @@ use Rattle.sets.specs.Searches.{some_below}
 use Rattle.sets.specs.declared.value_set.ValueSet.{ValueSet}
 use Rattle.tables.specs.Excluded.{exclusions_of, is_excluded, no_value, spared, stored_at}
 use Rattle.tables.specs.declared.exclusions.Exclusions.{Exclusions}
-use Rattle.tables.proofs.Folds.{next_value}
+use Rattle.tables.proofs.Ranges.{next_value}
 use Rattle.tables.proofs.Cells.{not_excluded, past_excluded}
 
 -- whether a value is excluded and stays

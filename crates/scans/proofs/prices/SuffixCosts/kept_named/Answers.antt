@@ -1,11 +1,9 @@
-use Rattle.std.proofs.Common.{◌≡◌, ℕ, ◌+◌, Bool, true, ◌||◌, drop, sym, ap, ◌∙◌, ap₂, arith}
+use Rattle.std.proofs.Common.{ℕ, ◌+◌, Bool, ◌||◌, drop, sym, ap, ◌∙◌, ap₂, arith}
 use mathlib.Core.Bool.{or-false}
 use mathlib.Core.Path.{fun_ext}
-use Rattle.std.proofs.ByRecursion.{All-get_or}
 use Rattle.std.proofs.lemmas.List.{at_drop_all}
 use Rattle.account.specs.Steps.{kept, named_in}
-use Rattle.rules.specs.Conditions.{condition, from_bytes}
-use Rattle.rules.specs.Judging.{known_decisions}
+use Rattle.rules.specs.Conditions.{from_bytes}
 use Rattle.sets.specs.Members.{members}
 use Rattle.sets.specs.declared.decision_set.DecisionSet.{DecisionSet}
 use Rattle.scans.proofs.Gathered.{gather_kept, skip_spared}

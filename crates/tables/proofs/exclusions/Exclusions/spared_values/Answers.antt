@@ -3,7 +3,7 @@ use Rattle.std.proofs.lemmas.Iterator.{YieldsList-from_range}
 use Rattle.std.proofs.lemmas.Iterator.Consumers.{YieldsList-from_filter}
 use Rattle.sets.specs.Members.{members, values}
 use Rattle.tables.specs.Excluded.{spared}
-use Rattle.tables.proofs.Folds.{kept_by_fold}
+use Rattle.rules.proofs.Folds.{kept_by_fold}
 use Rattle.tables.proofs.Sparing.{listed, listed_all, listed_more, stays, stays_past, stays_zero}
 use Rattle.tables.proofs.exclusions.Exclusions.spared_values.Goals as goal
 
