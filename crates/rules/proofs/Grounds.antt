@@ -3,11 +3,11 @@ use Rattle.std.proofs.Common.{◌≡◌, Bool, true, false, Some, None, Ok, Err,
 use Rattle.rules.specs.Refusals.{when, or_else, as_result, unless_refused}
 use Rattle.rules.specs.declared.refusal.Refusal.{Refusal}
 
-pub refused_some : (o : Option Refusal) (e : Refusal) → as_result o ≡ Err e → o ≡ Some e
+pub refused_some : {E : Type 0} (o : Option E) (e : E) → as_result o ≡ Err e → o ≡ Some e
 refused_some (Some f) e h = cc
 refused_some None e h = cc
 
-pub accepted_none : (o : Option Refusal) (u : Unit {0}) → as_result o ≡ Ok u → o ≡ None
+pub accepted_none : {E : Type 0} (o : Option E) (u : Unit {0}) → as_result o ≡ Ok u → o ≡ None
 accepted_none (Some f) u h = cc
 accepted_none None u h = refl
 

@@ -1,6 +1,7 @@
 pub mod Activity
 pub mod Conditions
 pub mod Lawfulness
+pub mod Folds
 pub mod Loops
 pub mod Grounds
 pub mod Composing

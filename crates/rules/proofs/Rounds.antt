@@ -1,45 +1,54 @@
 -- The active decisions, as rounds over a set of the first 64 find them.
-use Rattle.std.proofs.Common.{◌≡◌, ℕ, ◌+◌, ◌<◌, ◌≤◌, Bool, true, false, cond, ◌&&◌, ◌||◌, eqb, ltb, List, ◌∷◌, length, get_or, drop, filter, sym, refl, ap, ◌∙◌, ap₂, ⊎_elim, arith}
+use Rattle.std.proofs.Common.{◌≡◌, ℕ, zero, suc, ◌+◌, ◌-◌, ◌<◌, ◌≤◌, Bool, true, false, cond, ◌&&◌, ◌||◌, eqb, ltb, leb, ◌⊎◌, List, [], ◌∷◌, length, filter, sym, refl, ap, ◌∙◌, ap₂, ⊎_elim, inl, inr, zero-le, arith}
 use mathlib.Core.Path.{fun_ext}
-use mathlib.Core.Bool.{and-true, and-false, or_assoc}
-use lib.ListN.{get_or-eq_default}
-use Rattle.std.proofs.lemmas.List.{at_drop_more}
-use Rattle.std.proofs.lemmas.Bool.{eqb-true, and_left, cases_lt, lt-ltb, le-ltb}
-use Rattle.std.proofs.lemmas.Bool.Decides.{nat_tests}
+use mathlib.Core.Bool.{and-true, and-false, or-false}
+use Rattle.std.specs.List.{range_with_len, zip}
+use Rattle.std.proofs.lemmas.Bool.{eqb-true, eq-eqb, ne_eqb, and_right, cases_lt, cases_order, lt-ltb, lt-leb, le-leb}
+use Rattle.rules.proofs.Folds.{gathered}
 use Rattle.rules.specs.Conditions.{Plan, met}
-use Rattle.rules.specs.Plans.{Set, absent, enables, grown, on_at, within}
+use Rattle.rules.specs.Plans.{Set, enables, grown, on_at, within}
 use Rattle.rules.specs.declared.decision.Decision.{Decision}
 use Rattle.rules.specs.declared.row.Row.{Row}
 
--- the marked ones of the first i decisions
-abbrev pub MarkedBelow : List Decision → Set → ℕ → Type 0
-MarkedBelow ds s i = (x : ℕ) → s x ≡ (ltb x i && on_at ds x)
+-- the numbers of numbered decisions
+abbrev numbers_of : List (ℕ × Decision) → Set
+numbers_of ps = gathered (λ p. p.0) ps
 
-joins : (x i : ℕ) (b : Bool) → i < 64 → (x ≡ i → b ≡ true) → ((ltb x i && b) || (eqb x i && ltb i 64)) ≡ (ltb x (i + 1) && b)
-joins x i true low on = grind (arith, nat_tests)
-joins x i false low on = grind (arith, nat_tests)
+-- decisions numbered from n on, of which those that are marked on are kept
+numbered : (n m : ℕ) (ds : List Decision) (x : ℕ) → length ds ≤ m → n + m ≤ 64 → numbers_of (filter (λ p. p.1.on) (zip (range_with_len n m) ds)) x ≡ (leb n x && on_at ds (x - n))
+numbered n zero [] x few low = sym (and_right (leb n x) false refl)
+numbered n (suc m) [] x few low = sym (and_right (leb n x) false refl)
+numbered n (suc m) (d ∷ ds) x few low =
+    front d.on ∙ ap (λ (b : Bool). (eqb x n && d.on) || b) (numbered (n + 1) m ds x (omega arith) (omega arith)) ∙ at (cases_order x n)
+  where
+    later : List (ℕ × Decision)
+    later = filter (λ p. p.1.on) (zip (range_with_len (n + 1) m) ds)
 
-skips : (x i : ℕ) (b : Bool) → (x ≡ i → b ≡ false) → (ltb x i && b) ≡ (ltb x (i + 1) && b)
-skips x i true off = grind (arith, nat_tests)
-skips x i false off = grind (arith, nat_tests)
+    front : (b : Bool) → numbers_of (cond b ((n, d) ∷ later) later) x ≡ ((eqb x n && b) || numbers_of later x)
+    front true = ap (λ (b : Bool). (eqb x n && b) || numbers_of later x) (lt-ltb n 64 (omega arith))
+    front false = ap (λ (b : Bool). b || numbers_of later x) (sym (and_right (eqb x n) false refl))
 
--- of no decisions
-pub marked_none : (ds : List Decision) (s : Set) → s ≡ (λ x. false) → MarkedBelow ds s 0
-marked_none ds s e x = ap (λ (f : Set). f x) e ∙ sym (and_left (ltb x 0) (on_at ds x) (le-ltb x 0 (omega arith)))
+    -- the number of an earlier decision, or of a later one
+    other : (a b : Bool) → eqb x n ≡ false → a ≡ b → ((eqb x n && d.on) || a) ≡ b
+    other a b e same = ap (λ (t : Bool). (t && d.on) || a) e ∙ same
 
--- one decision more, which is marked on
-pub marked_more : (ds : List Decision) (s t : Set) (i : ℕ) → i < 64 → on_at ds i ≡ true → t ≡ (λ (x : ℕ). s x || (eqb x i && ltb i 64)) → MarkedBelow ds s i → MarkedBelow ds t (i + 1)
-marked_more ds s t i low on e old x = ap (λ (f : Set). f x) e ∙ ap (λ (b : Bool). b || (eqb x i && ltb i 64)) (old x) ∙ joins x i (on_at ds x) low (λ e. ap (on_at ds) e ∙ on)
+    at : (x ≡ n) ⊎ ((x < n) ⊎ (n < x)) → ((eqb x n && d.on) || (leb (n + 1) x && on_at ds (x - (n + 1)))) ≡ (leb n x && on_at (d ∷ ds) (x - n))
+    at (inl same) =
+        let first : x - n ≡ 0 = omega arith in
+        ap₂ (λ (a b : Bool). (a && d.on) || (b && on_at ds (x - (n + 1)))) (eq-eqb x n same) (lt-leb (n + 1) x (omega arith)) ∙ or-false d.on
+        ∙ sym (ap₂ (λ (b : Bool) (k : ℕ). b && on_at (d ∷ ds) k) (le-leb n x (omega arith)) first)
+    at (inr (inl h)) =
+        other _ _ (ne_eqb x n (λ (e : x ≡ n). omega arith))
+        (ap (λ (b : Bool). b && on_at ds (x - (n + 1))) (lt-leb (n + 1) x (omega arith)) ∙ sym (ap (λ (b : Bool). b && on_at (d ∷ ds) (x - n)) (lt-leb n x h)))
+    at (inr (inr h)) =
+        let next : suc (x - (n + 1)) ≡ x - n = omega arith in
+        other _ _ (ne_eqb x n (λ (e : x ≡ n). omega arith))
+        (ap (λ (b : Bool). b && on_at ds (x - (n + 1))) (le-leb (n + 1) x (omega arith) ∙ sym (le-leb n x (omega arith))) ∙ ap (λ (k : ℕ). leb n x && on_at (d ∷ ds) k) next)
+numbered n zero (d ∷ ds) x few low = absurd (omega arith)
 
--- one decision more, which is not
-pub marked_skip : (ds : List Decision) (s t : Set) (i : ℕ) → on_at ds i ≡ false → t ≡ s → MarkedBelow ds s i → MarkedBelow ds t (i + 1)
-marked_skip ds s t i off e old x = ap (λ (f : Set). f x) e ∙ old x ∙ skips x i (on_at ds x) (λ e. ap (on_at ds) e ∙ off)
-
--- all decisions
-pub marked_all : (ds : List Decision) (s : Set) (i : ℕ) → length ds ≤ i → MarkedBelow ds s i → s ≡ on_at ds
-marked_all ds s i l old =
-    fun_ext (λ (x : ℕ). old x ∙ ⊎_elim (λ (h : x < i). ap (λ (b : Bool). b && on_at ds x) (lt-ltb x i h))
-    (λ (h : i ≤ x). ap (λ (b : Bool). b && on_at ds x) (le-ltb x i h) ∙ sym (ap (λ (d : Decision). d.on) (get_or-eq_default ds absent (omega arith)))) (cases_lt x i))
+-- the marked ones of 64 decisions at most
+pub numbers_marked : (ds : List Decision) → length ds ≤ 64 → gathered (λ p. p.0) (filter (λ p. p.1.on) (zip (range_with_len 0 64) ds)) ≡ on_at ds
+numbers_marked ds few = fun_ext (λ (x : ℕ). numbered 0 64 ds x few (omega arith) ∙ ap₂ (λ (b : Bool) (k : ℕ). b && on_at ds k) (le-leb 0 x zero-le) (omega arith))
 
 module _ (p : Plan) (idle : (d : ℕ) → 64 ≤ d → p d ≡ 0) (s t : Set) (same : (d : ℕ) → d < 64 → s d ≡ t d) where
   none : (b : Bool) (v : ℕ) → v ≡ 0 → cond b v 0 ≡ 0
@@ -66,28 +75,24 @@ target_low d t l = go (eqb d t) refl
     go true e = lt-ltb t 64 (omega (arith, eqb-true d t e))
     go false e = refl
 
-module _ (k : Row → Bool) (p : Plan) (rs : List Row) (i : ℕ) (r : Row) (l : i < length rs) (d : ℕ) where
-  abbrev pub row : Row
-  row = get_or rs i r
+-- the targets of rows
+abbrev aimed : List Row → Set
+aimed rs = gathered (λ r. r.target) rs
 
-  abbrev pub later : Bool
-  later = enables (filter k (drop (i + 1) rs)) p d
+-- the targets of the rows that count and are met are those that are enabled
+pub aimed_enabled : (k : Row → Bool) (p : Plan) (rs : List Row) (d : ℕ) → d < 64 → gathered (λ r. r.target) (filter (λ r. k r && met p r) rs) d ≡ enables (filter k rs) p d
+aimed_enabled k p [] d low = refl
+aimed_enabled k p (r ∷ rs) d low = at (k r) (met p r) refl (aimed_enabled k p rs d low)
+  where
+    later : Bool
+    later = enables (filter k rs) p d
 
-  -- the rows that count, one more of them or not
-  next_enables : (b : Bool) → (k row && met p row) ≡ b → enables (filter k (drop i rs)) p d ≡ ((eqb d row.target && b) || later)
-  next_enables b h = at_drop_more (λ (xs : List Row). enables (filter k xs) p d) rs i r l ∙ go (k row) refl
-    where
-      go : (a : Bool) → k row ≡ a → enables (cond a (row ∷ filter k (drop (i + 1) rs)) (filter k (drop (i + 1) rs))) p d ≡ ((eqb d row.target && b) || later)
-      go true e = ap (λ (x : Bool). (eqb d row.target && x) || later) (sym (ap (λ (x : Bool). x && met p row) e) ∙ h)
-      go false e = ap (λ (x : Bool). x || later) (sym (and-false (eqb d row.target)) ∙ ap (λ (x : Bool). eqb d row.target && x) (sym (ap (λ (x : Bool). x && met p row) e) ∙ h))
+    -- the row's own target, with whether it is met
+    own : (b : Bool) → met p r ≡ b → (eqb d r.target && b) ≡ (eqb d r.target && met p r)
+    own b e = ap (λ (x : Bool). eqb d r.target && x) (sym e)
 
-  -- one that counts and is met is gathered
-  pub enables_more : (s : Bool) → d < 64 → (k row && met p row) ≡ true → ((s || (eqb d row.target && ltb row.target 64)) || later) ≡ (s || enables (filter k (drop i rs)) p d)
-  enables_more s low h =
-      ap (λ (b : Bool). (s || b) || later) (target_low d row.target low ∙ sym (and-true (eqb d row.target)))
-      ∙ or_assoc s (eqb d row.target && true) later
-      ∙ ap (λ (b : Bool). s || b) (sym (next_enables true h))
-
-  -- another gives nothing
-  pub enables_skip : (k row && met p row) ≡ false → later ≡ enables (filter k (drop i rs)) p d
-  enables_skip h = sym (next_enables false h ∙ ap (λ (b : Bool). b || later) (and-false (eqb d row.target)))
+    at : (a b : Bool) → met p r ≡ b → aimed (filter (λ x. k x && met p x) rs) d ≡ later
+        → aimed (cond (a && b) (r ∷ filter (λ x. k x && met p x) rs) (filter (λ x. k x && met p x) rs)) d ≡ enables (cond a (r ∷ filter k rs) (filter k rs)) p d
+    at false b e rest = rest
+    at true false e rest = rest ∙ ap (λ (x : Bool). x || later) (sym (and-false (eqb d r.target)) ∙ own false e)
+    at true true e rest = ap₂ (λ (x y : Bool). x || y) (target_low d r.target low ∙ sym (and-true (eqb d r.target)) ∙ own true e) rest

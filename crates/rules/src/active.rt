@@ -4,7 +4,7 @@ ghost use Rattle.rules.specs.Conditions.{from_bytes, met};
 ghost use Rattle.rules.specs.Plans.{enables, on_at, rounds, within};
 ghost use Rattle.sets.specs.Members.{members};
 
-use crate::{Counting, Decision, Row, value_of};
+use crate::{Counting, Decision, MOST_DECISIONS, Row, value_of};
 use sets::DecisionSet;
 use std::array;
 
@@ -13,14 +13,10 @@ fn marked(decisions: &[Decision]) -> DecisionSet
     requires { length decisions.now ≤ 64 }
     ensures { members result ≡ on_at decisions.now }
 {
-    // A fold over the decisions with their numbers, and filtered, is no shorter.
-    let mut set = DecisionSet::empty();
-    for (number, decision) in decisions.iter().enumerate() {
-        if decision.on {
-            set = set.with(number as u8);
-        }
-    }
-    set
+    (0..64u8)
+        .zip(decisions)
+        .filter(|(_, decision)| decision.on)
+        .fold(DecisionSet::empty(), |set, (number, _)| set.with(number))
 }
 
 /// The plan's choice for a decision if it is in a set, else 0.
@@ -35,9 +31,10 @@ fn choice(plan: &[u8], set: DecisionSet, decision: u8) -> u8
 }
 
 /// The plan's choices for the decisions of a set.
-fn choices(plan: &[u8], set: DecisionSet) -> [u8; 64]
+fn choices(plan: &[u8], set: DecisionSet) -> [u8; MOST_DECISIONS]
     ensures { from_bytes result ≡ within (members set) (from_bytes plan.now) }
 {
+    // A cast: `from_fn` counts in `usize`, and a `try_from` here would say a failure that there is not.
     array::from_fn(|decision| choice(plan, set, decision as u8))
 }
 
@@ -52,14 +49,9 @@ fn fires<C: Counting>(row: &Row, plan: &[u8]) -> bool
 pub fn enabled<C: Counting>(rows: &[Row], plan: &[u8]) -> DecisionSet
     ensures { (d : ℕ) → d < 64 → members result d ≡ enables (filter C.counted rows.now) (from_bytes plan.now) d }
 {
-    // A fold over the rows that fire is no shorter.
-    let mut targets = DecisionSet::empty();
-    for row in rows {
-        if fires::<C>(row, plan) {
-            targets = targets.with(row.target);
-        }
-    }
-    targets
+    rows.iter()
+        .filter(|row| fires::<C>(row, plan))
+        .fold(DecisionSet::empty(), |set, row| set.with(row.target))
 }
 
 /// The active decisions: those marked on, and in as many rounds as there are decisions what their choices enable.

@@ -1,7 +1,6 @@
 //! The checks of decisions, and of rows beside them.
 ghost use Rattle.std.specs.Prelude.{◌≡◌, length};
 ghost use Rattle.rules.specs.Judging.{has_size, sized, known_decisions, known_value, known_values, open_refusal, row_refusal, rows_refusal};
-ghost use Rattle.rules.specs.Plans.{size_at};
 ghost use Rattle.rules.specs.Refusals.{as_result};
 
 use crate::{Decision, Literal, Refusal, Row};
@@ -10,13 +9,13 @@ use crate::{Decision, Literal, Refusal, Row};
 pub const MOST_DECISIONS: usize = 64;
 
 /// The most values that a decision may have.
-const MOST_VALUES: u8 = 16;
+pub const MOST_VALUES: u8 = 16;
 
 /// Whether a decision has 1 to 16 values.
 fn is_sized(decision: &Decision) -> bool
     ensures { result ≡ has_size decision.now }
 {
-    1 <= decision.size && decision.size <= MOST_VALUES
+    (1..=MOST_VALUES).contains(&decision.size)
 }
 
 /// Whether every decision has 1 to 16 values.
@@ -39,28 +38,20 @@ pub fn check_decisions(decisions: &[Decision]) -> Result<(), Refusal>
     Ok(())
 }
 
-/// How many values a decision has; 0 if there is no such decision.
-fn size_of(decisions: &[Decision], decision: u8) -> u8
-    ensures { result ≡ size_at decisions.now decision }
-{
-    decisions
-        .get(decision as usize)
-        .map_or(0, |decision| decision.size)
-}
-
 /// Whether a pair's value is one of its decision's.
 fn value_known(pair: &Literal, decisions: &[Decision]) -> bool
     ensures { result ≡ known_value decisions.now pair.now }
 {
-    let size = size_of(decisions, pair.decision);
-    1 <= pair.value && pair.value <= size
+    decisions
+        .get(usize::from(pair.decision))
+        .is_some_and(|decision| (1..=decision.size).contains(&pair.value))
 }
 
 /// Whether every pair's decision is one of the first `count`.
 fn decisions_known(pairs: &[Literal], count: usize) -> bool
     ensures { result ≡ known_decisions count pairs.now }
 {
-    pairs.iter().all(|pair| (pair.decision as usize) < count)
+    pairs.iter().all(|pair| usize::from(pair.decision) < count)
 }
 
 /// Whether every pair's value is one of its decision's.
@@ -78,7 +69,7 @@ pub fn check_row(decisions: &[Decision], row: &Row) -> Result<(), Refusal>
     if !decisions_known(row.condition(), count) {
         return Err(Refusal::UnknownDecision);
     }
-    if row.kind.is_activate() && row.target as usize >= count {
+    if row.kind.is_activate() && usize::from(row.target) >= count {
         return Err(Refusal::UnknownDecision);
     }
     if !values_known(row.condition(), decisions) {

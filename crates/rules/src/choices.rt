@@ -6,7 +6,7 @@ ghost use Rattle.rules.specs.Searches.{Chooses, FirstMisfit, misfit};
 ghost use Rattle.sets.specs.Members.{members};
 
 use crate::active::active_decisions;
-use crate::{Breach, Counting, Decision, Row, value_of};
+use crate::{Breach, Counting, Decision, MOST_DECISIONS, Row, value_of};
 use sets::DecisionSet;
 
 /// Whether a plan that gives a decision this value treats it lawfully; else how not.
@@ -30,8 +30,7 @@ fn check_each(decisions: &[Decision], active: DecisionSet, plan: &[u8]) -> Resul
     requires { length decisions.now ≤ 64 }
     ensures { FirstMisfit decisions.now (members active) (from_bytes plan.now) (length decisions.now) result }
 {
-    for (i, decision) in decisions.iter().enumerate() {
-        let number = i as u8;
+    for (number, decision) in (0..64u8).zip(decisions) {
         check_choice(
             number,
             decision.size,
@@ -51,8 +50,8 @@ pub fn check_choices<C: Counting>(
 ) -> Result<(), Breach>
     ensures { Chooses (take 64 decisions.now) (filter C.counted rows.now) (take 64 plan.now) result }
 {
-    let decisions = &decisions[0..decisions.len().min(64)];
-    let plan = &plan[0..plan.len().min(64)];
+    let decisions = &decisions[0..decisions.len().min(MOST_DECISIONS)];
+    let plan = &plan[0..plan.len().min(MOST_DECISIONS)];
     let active = active_decisions::<C>(decisions, rows, plan);
     check_each(decisions, active, plan)
 }

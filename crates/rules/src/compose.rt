@@ -20,7 +20,7 @@ fn ascend(pairs: &[Literal]) -> bool
 pub fn check(kind: Kind, pairs: &[Literal], price: Price) -> Result<(), Refusal>
     ensures { result ≡ as_result (compose_refusal kind pairs.now price) }
 {
-    if pairs.len() < 1 || pairs.len() > 4 {
+    if !(1..=4).contains(&pairs.len()) {
         return Err(Refusal::PairCount);
     }
     if !ascend(pairs) {

@@ -1,5 +1,5 @@
 //! A rule, whose type keeps the shape that every rule has.
-ghost use Rattle.std.specs.Prelude.{◌≡◌, ◌≤◌, true, length};
+ghost use Rattle.std.specs.Prelude.{◌≡◌, ◌≤◌, true, length, Some, None, MatchResult};
 ghost use Rattle.rules.specs.Compose.{ascends, compose_refusal, composed, new_rule};
 ghost use Rattle.rules.specs.Conditions.{condition};
 ghost use Rattle.rules.specs.Refusals.{as_result, unless_refused};
@@ -31,6 +31,18 @@ impl Rule {
         }
     }
 
+    /// The rule of a kind with these pairs, this target and this price; a target or a price that the kind lacks is 0.
+    /// Refuses if the pairs are not one to four, then if their decisions do not strictly ascend, then if a price
+    /// rule's cents are over 1,000,000,000.
+    pub fn of(kind: Kind, pairs: &[Literal], target: u8, price: Price) -> Result<Rule, Refusal>
+        ensures { MatchResult result (λ rule. (compose_refusal kind pairs.now price ≡ None) × (rule.row ≡ composed kind pairs.now target price)) (λ refusal. compose_refusal kind pairs.now price ≡ Some refusal) }
+    {
+        compose::check(kind, pairs, price)?;
+        Ok(Rule {
+            row: compose::row_of(kind, pairs, target, price),
+        })
+    }
+
     /// Makes this the rule of a kind with these pairs, this target and this price; a target or a price that the
     /// kind lacks is 0. Refuses if the pairs are not one to four, then if their decisions do not strictly ascend,
     /// then if a price rule's cents are over 1,000,000,000; the rule then stays as it was.
@@ -44,9 +56,7 @@ impl Rule {
         ensures value { result ≡ as_result (compose_refusal kind pairs.now price) }
         ensures after { self.new.row ≡ unless_refused (compose_refusal kind pairs.now price) self.old.row (composed kind pairs.now target price) }
     {
-        compose::check(kind, pairs, price)?;
-        let row = compose::row_of(kind, pairs, target, price);
-        *self = Rule { row };
+        *self = Rule::of(kind, pairs, target, price)?;
         Ok(())
     }
 

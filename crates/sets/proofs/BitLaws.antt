@@ -2,17 +2,15 @@
 use Rattle.std.proofs.Common.{◌≡◌, ℕ, zero, suc, ◌+◌, ◌-◌, ◌*◌, ◌/◌, ◌%◌, ◌^◌, ◌<◌, min, max, Bool, ltb, true, false, cond, not, ◌&&◌, ◌||◌, eqb, ◌⊎◌, sym, refl, ap, ◌∙◌, ap₂, inl, inr, le_of_suc-le-suc, not-suc-le-zero, lt_of_le_of_lt, mod-lt, mod-eq_of_lt, add_comm, pow-suc, one-add, arith, pow_pos, shr-shr}
 use mathlib.Core.Path.{fun_ext}
 use native.Mathlib.Nat.{mod-one}
-use lib.Bits.{bit_and, bit_or, and_le_l, and_mask, and_shr, or_shr, and_mod, or_mod}
+use lib.Bits.{bit_and, bit_or, and_le_l, and_mask}
 use lib.Count.{ones, ones_in, count_trailing_zeros, under, ones_cat, ones-ones}
-use lib.Dec.{eqb-suc-suc, eqb-suc-zero, eqb-zero-suc}
 use lib.Pow.{pow-lt, mod-pow-add}
-use Rattle.std.proofs.lemmas.Bool.{cases_eq, cases_lt, eq-eqb, lt-ltb, le-ltb, eqb-true, ne_eqb, not-false, not_from_false, or_right}
+use Rattle.std.proofs.lemmas.Bool.{cases_eq, cases_lt, eq-eqb, lt-ltb, le-ltb, ne_eqb, not_from_false, or_right}
 use Rattle.std.proofs.lemmas.Nat.Bits.{bit_at_and, bit_at_or, bit_at-pow_same, bit_at-pow_other, bit_at_ones, bit_at_ones_above}
 use Rattle.std.proofs.lemmas.Bool.Decides.{nat_tests}
 use Rattle.sets.specs.Members.{bit}
 use Rattle.sets.specs.Searches.{some_below, count_outside}
 use Rattle.sets.proofs.BoolLaws.{or_failed}
-use Rattle.sets.proofs.SearchLaws.{some_below_none}
 
 -- 2 and more is no digit
 not_digit : {A : Type 0} {n : ℕ} → suc (suc n) < 2 → A
@@ -169,7 +167,7 @@ one_digit (suc zero) h = refl
 one_digit (suc (suc d)) h = not_digit h
 
 -- one more low bit adds itself to the count of ones
-pub ones_more : (n m : ℕ) → ones (n % 2 ^ suc m) ≡ ones (n % 2 ^ m) + cond (bit n m) 1 0
+ones_more : (n m : ℕ) → ones (n % 2 ^ suc m) ≡ ones (n % 2 ^ m) + cond (bit n m) 1 0
 ones_more n m =
     ap ones (low_more n m) ∙ ones_cat m (n / 2 ^ m % 2) (n % 2 ^ m) (mod-lt n (pow_pos m))
     ∙ add_comm (ones (n / 2 ^ m % 2)) (ones (n % 2 ^ m))

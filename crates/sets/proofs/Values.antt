@@ -1,11 +1,12 @@
 -- Which values are in a set, by its bits.
-use Rattle.std.proofs.Common.{◌≡◌, ℕ, zero, suc, ◌+◌, ◌-◌, ◌*◌, ◌/◌, ◌%◌, ◌^◌, ◌<◌, ◌≤◌, Bool, true, false, not, ◌&&◌, ◌||◌, eqb, leb, Some, None, sym, refl, ap, ◌∙◌, ap₂, inl, inr, not-suc-le-zero, arith}
+use Rattle.std.proofs.Common.{◌≡◌, ℕ, zero, suc, ◌+◌, ◌-◌, ◌*◌, ◌/◌, ◌%◌, ◌^◌, ◌<◌, ◌≤◌, Bool, true, false, not, ◌&&◌, ◌||◌, eqb, ltb, leb, ◌⊎◌, sym, refl, ap, ◌∙◌, ap₂, inl, inr, not-suc-le-zero, arith}
 use mathlib.Core.Path.{fun_ext}
 use lib.Bits.{bit_and, bit_or, and_mask}
 use lib.Count.{ones, count_trailing_zeros, trailing_le}
 use lib.Dec.{eqb-suc-suc}
 use Rattle.std.proofs.lemmas.Nat.{one_shl}
-use Rattle.std.proofs.lemmas.Bool.{cases_lt, cases_eq, not_from_false, le-leb, lt-leb, ne_eqb, and_left, and_right, and_from, or_from, not-true, not-false}
+use Rattle.std.proofs.lemmas.Bool.{cases_lt, cases_eq, not_from_false, le-leb, lt-leb, leb-true, le-ltb, lt-ltb, ne_eqb, and_left, and_parts, and_right, and_from, or_from, not-true, not-false}
+use Rattle.std.specs.Bool.{then_some}
 use Rattle.sets.specs.declared.value_set.ValueSet.{ValueSet}
 use Rattle.sets.specs.Members.{bit, values}
 use Rattle.sets.specs.Searches.{smallest_outside, count_outside}
@@ -29,6 +30,15 @@ no_value_zero s = refl
 pub no_value_above : (s : ValueSet) (v : ℕ) → 16 < v → values s v ≡ false
 unfolding values
 no_value_above s v h = and_left (leb 1 v && leb v 16) (bit s.bits (v - 1)) (and_right (leb 1 v) (leb v 16) (lt-leb v 16 h))
+
+-- nor what is no value at all
+pub no_value : (s : ValueSet) (v : ℕ) → (leb 1 v && leb v 16) ≡ false → values s v ≡ false
+unfolding values
+no_value s v h = and_left (leb 1 v && leb v 16) (bit s.bits (v - 1)) h
+
+-- what is a value is 1 to 16
+pub value_range : (v : ℕ) → (leb 1 v && leb v 16) ≡ true → (1 ≤ v) × (v ≤ 16)
+value_range v h = let (low, high) = and_parts (leb 1 v) (leb v 16) h in (leb-true 1 v low, leb-true v 16 high)
 
 -- the test of the bit before a value
 pub value_test : (s : ValueSet) (v : ℕ) → 1 ≤ v → v ≤ 16 → eqb (bit_and (s.bits / 2 ^ (v - 1)) 1) 1 ≡ values s v
@@ -94,18 +104,20 @@ inside_before_first s k fits h =
     not-false (values s (suc k))
     (sym (outside_bit s k fits (omega (arith, trailing_le 16 (2 ^ 16 - 1 - s.bits)))) ∙ bit_before_first 16 (2 ^ 16 - 1 - s.bits) k h)
 
--- the first bit of the complement, below a bound, is the smallest value outside
-pub smallest_by_first : (s : ValueSet) (n : ℕ) → s.bits < 2 ^ 16 → n ≤ 16 → count_trailing_zeros 16 (2 ^ 16 - 1 - s.bits) < n
-    → Some (count_trailing_zeros 16 (2 ^ 16 - 1 - s.bits) + 1) ≡ smallest_outside (values s) n
-smallest_by_first s n fits top h =
-    let z = count_trailing_zeros 16 (2 ^ 16 - 1 - s.bits) in
-    ap Some (omega arith)
-    ∙ sym (first_outside (values s) n z h (λ k l. inside_before_first s k fits l)
-    (not-true (values s (suc z)) (sym (outside_bit s z fits (omega arith)) ∙ bit_first 16 (2 ^ 16 - 1 - s.bits) (omega arith))))
+-- the first bit of the complement, below a bound, is the smallest value outside; past it, no value up to the bound is
+pub smallest_by_first : (s : ValueSet) (n : ℕ) → s.bits < 2 ^ 16 → n ≤ 16
+    → then_some (ltb (count_trailing_zeros 16 (2 ^ 16 - 1 - s.bits)) n) (count_trailing_zeros 16 (2 ^ 16 - 1 - s.bits) + 1) ≡ smallest_outside (values s) n
+smallest_by_first s n fits top = at (cases_lt z n)
+  where
+    z : ℕ
+    z = count_trailing_zeros 16 (2 ^ 16 - 1 - s.bits)
 
--- where the first bit of the complement is past a bound, no value up to it is outside
-pub none_by_first : (s : ValueSet) (n : ℕ) → s.bits < 2 ^ 16 → n ≤ count_trailing_zeros 16 (2 ^ 16 - 1 - s.bits) → None ≡ smallest_outside (values s) n
-none_by_first s n fits h = sym (none_outside (values s) n (λ k l. inside_before_first s k fits (omega arith)))
+    at : (z < n) ⊎ (n ≤ z) → then_some (ltb z n) (z + 1) ≡ smallest_outside (values s) n
+    at (inl h) =
+        ap₂ then_some (lt-ltb z n h) (omega arith)
+        ∙ sym (first_outside (values s) n z h (λ k l. inside_before_first s k fits l)
+        (not-true (values s (suc z)) (sym (outside_bit s z fits (omega arith)) ∙ bit_first 16 (2 ^ 16 - 1 - s.bits) (omega arith))))
+    at (inr h) = ap (λ (b : Bool). then_some b (z + 1)) (le-ltb z n h) ∙ sym (none_outside (values s) n (λ k l. inside_before_first s k fits (omega arith)))
 
 -- the ones of the complement's first bits are the values outside
 pub count_by_ones : (s : ValueSet) (n : ℕ) → s.bits < 2 ^ 16 → n ≤ 16 → ones (bit_and (2 ^ 16 - 1 - s.bits) (2 ^ n - 1)) ≡ count_outside (values s) n

@@ -11,6 +11,13 @@ pub struct ValueSet {
     pub bits: u16,
 }
 
+/// Whether a number is a value, 1 to 16.
+fn is_value(v: u8) -> bool
+    ensures { result ≡ (nat_le 1 v && nat_le v 16) }
+{
+    (1..=16).contains(&v)
+}
+
 impl ValueSet {
     /// The set of no value.
     pub fn empty() -> ValueSet
@@ -23,14 +30,14 @@ impl ValueSet {
     pub fn has(self, v: u8) -> bool
         ensures { result ≡ values self v }
     {
-        1 <= v && v <= 16 && (self.bits >> (v - 1)) & 1 == 1
+        is_value(v) && (self.bits >> (v - 1)) & 1 == 1
     }
 
     /// The set with one more value; a value outside 1 to 16 changes nothing.
     pub fn with(self, v: u8) -> ValueSet
         ensures { values result ≡ (λ x. values self x || (x == v && (nat_le 1 v && nat_le v 16))) }
     {
-        if 1 <= v && v <= 16 {
+        if is_value(v) {
             ValueSet {
                 bits: self.bits | (1u16 << (v - 1)),
             }
@@ -43,7 +50,7 @@ impl ValueSet {
     pub fn without(self, v: u8) -> ValueSet
         ensures { values result ≡ (λ x. values self x && not (x == v)) }
     {
-        if 1 <= v && v <= 16 {
+        if is_value(v) {
             ValueSet {
                 bits: self.bits & !(1u16 << (v - 1)),
             }
@@ -56,13 +63,10 @@ impl ValueSet {
     pub fn smallest_outside(self, size: u8) -> Option<u8>
         ensures { result ≡ smallest_outside (values self) (min size 16) }
     {
-        // The values 1 to `filled` are in the set, and the next is not.
+        // The values 1 to `filled` are in the set, and the next is not. Of casts here and below: a bit count fits, and
+        // a `try_from` would say a failure that there is not.
         let filled = (!self.bits).trailing_zeros() as u8;
-        if filled < size.min(16) {
-            Some(filled + 1)
-        } else {
-            None
-        }
+        (filled < size.min(16)).then_some(filled + 1)
     }
 
     /// How many of the values 1 to `size`, of 16 at most, are not in the set.

@@ -4,7 +4,6 @@ use mathlib.Core.Path.{fun_ext}
 use Rattle.std.proofs.lemmas.List.{get_or-replicate}
 use Rattle.std.proofs.lemmas.Bool.{and_from, and_left, and_parts, and_right, both_ways, cases_eq, cases_lt, eq-eqb, eqb-true, le-ltb, lt-ltb, ne_eqb}
 use Rattle.rules.specs.Refusals.{when}
-use Rattle.sets.proofs.Values.{values_empty}
 use Rattle.sets.specs.Members.{values}
 use Rattle.sets.specs.declared.value_set.ValueSet.{ValueSet}
 use Rattle.tables.specs.Excluded.{cell_of, exclusion_by, exclusions_of, is_excluded, no_value, stored_at}
@@ -34,16 +33,15 @@ pub exclusion_at : (x : Exclusions) (d v : ℕ) → d < 64 → exclusions_of x d
 unfolding exclusions_of
 exclusion_at x d v h = ap (λ (b : Bool). when (b && is_excluded x d v) (stored_at x d v)) (lt-ltb d 64 h)
 
--- where no set has a value
-pub none_excluded : (x : Exclusions) → x.excluded ≡ replicate 64 no_value → exclusions_of x ≡ (λ d v. None)
-none_excluded x e = fun_ext (λ (d : ℕ). fun_ext (λ (v : ℕ). at d v (cases_lt d 64)))
+-- where every set is one that has no value
+pub none_excluded : (x : Exclusions) (s : ValueSet) → x.excluded ≡ replicate 64 s → values s ≡ (λ v. false) → exclusions_of x ≡ (λ d v. None)
+none_excluded x s e none = fun_ext (λ (d : ℕ). fun_ext (λ (v : ℕ). at d v (cases_lt d 64)))
   where
     at : (d v : ℕ) → (d < 64) ⊎ (64 ≤ d) → exclusions_of x d v ≡ None
     at d v (inr h) = past_excluded x d v h
     at d v (inl h) =
         not_excluded x d v
-        (ap (λ (xs : List ValueSet). values (get_or xs d no_value) v) e ∙ ap (λ (s : ValueSet). values s v) (get_or-replicate 64 d no_value no_value h)
-        ∙ ap (λ (f : ℕ → Bool). f v) values_empty)
+        (ap (λ (xs : List ValueSet). values (get_or xs d no_value) v) e ∙ ap (λ (t : ValueSet). values t v) (get_or-replicate 64 d s no_value h) ∙ ap (λ (f : ℕ → Bool). f v) none)
 
 -- a list of sets in which one value of one was marked
 marked_set : (xs : List ValueSet) (d v : ℕ) (s : ValueSet) (t : Bool) → d < length xs → values s ≡ (λ w. cond (eqb w v) t (values (get_or xs d no_value) w))

@@ -2,7 +2,7 @@
 use Rattle.std.proofs.Common.{List, [], ◌∷◌, ◌++◌, ◌≡◌, ℕ, zero, suc, ◌+◌, ◌<◌, ◌≤◌, min, Bool, true, false, cond, not, ◌||◌, Some, None, Option, sym, refl, ap, ◌∙◌, ap₂, arith}
 use Rattle.std.specs.List.{fold, list_any, range_with_len}
 use Rattle.std.proofs.lemmas.List.Folds.{list_any-append}
-use Rattle.tables.proofs.Folds.{next_value}
+use Rattle.tables.proofs.Ranges.{next_value}
 use Rattle.std.proofs.lemmas.List.Sums.{fold-append}
 use Rattle.rules.specs.Plans.{Set}
 use Rattle.rules.specs.Refusals.{or_else, when}

@@ -1,6 +1,6 @@
 pub mod Cells
 pub mod Entering
-pub mod Folds
+pub mod Ranges
 pub mod Frees
 pub mod Listed
 pub mod Marks

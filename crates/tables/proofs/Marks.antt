@@ -1,5 +1,5 @@
--- Sets with one value marked or not.
-use Rattle.std.proofs.Common.{◌≡◌, ℕ, zero, suc, ◌≤◌, Bool, true, false, cond, not, ◌&&◌, ◌||◌, eqb, leb, refl, ◌∙◌, inl, inr, arith}
+-- Sets with one value marked.
+use Rattle.std.proofs.Common.{◌≡◌, ℕ, zero, suc, ◌≤◌, Bool, true, false, cond, ◌&&◌, ◌||◌, eqb, leb, refl, ◌∙◌, inl, inr, arith}
 use mathlib.Core.Path.{fun_ext}
 use Rattle.std.proofs.lemmas.Bool.{and_from, both_ways, cases_lt, le-leb}
 use Rattle.sets.proofs.Values.{no_value_above, no_value_zero}
@@ -16,16 +16,6 @@ marked_in s r v low high e =
     at true false e = refl
     at false true e = e
     at false false e = refl
-
--- a value taken out
-pub marked_out : (s r : ValueSet) (v : ℕ) → values r ≡ (λ x. values s x && not (eqb x v)) → values r ≡ (λ x. cond (eqb x v) false (values s x))
-marked_out s r v e = e ∙ fun_ext (λ (x : ℕ). at (values s x) (eqb x v))
-  where
-    at : (a b : Bool) → (a && not b) ≡ cond b false a
-    at true true = refl
-    at true false = refl
-    at false true = refl
-    at false false = refl
 
 -- only 1 to 16 can be in a set of values
 pub value_known : (s : ValueSet) (v : ℕ) → values s v ≡ true → (1 ≤ v) × (v ≤ 16)

@@ -20,6 +20,8 @@ pub struct Exclusions {
     reasons: [u64; 1024],
 }
 
+// Of casts in this file: an index by `usize::from` was tried, and is no plainer where five proofs then need a step more.
+
 /// Which exclusions stay: those whose reason has no barred decision, and unless `resting` only those that do not rest on
 /// the best.
 #[derive(Clone, Copy)]
@@ -66,8 +68,8 @@ impl Exclusions {
         ensures { exclusions_of result ≡ (λ d v. None) }
     {
         Exclusions {
-            excluded: [ValueSet { bits: 0 }; 64],
-            resting: [ValueSet { bits: 0 }; 64],
+            excluded: [ValueSet::empty(); 64],
+            resting: [ValueSet::empty(); 64],
             reasons: [0; 1024],
         }
     }
@@ -76,13 +78,15 @@ impl Exclusions {
     pub fn clear(&mut self)
         ensures { exclusions_of self.new ≡ (λ d v. None) }
     {
-        self.excluded = [ValueSet { bits: 0 }; 64];
+        self.excluded = [ValueSet::empty(); 64];
     }
 
     /// The reason of an excluded value, and whether it rests on the best.
+    // A pair: an exclusion is wanted in this form, its reason with its mark.
     pub fn get(&self, d: u8, v: u8) -> Option<(DecisionSet, bool)>
         ensures { as_exclusion result ≡ exclusions_of self.now d v }
     {
+        // By `if`: with `then` the closure is as long, and asks again for what the test has just shown.
         if d < 64 && self.excluded[d as usize].has(v) {
             let reason = DecisionSet {
                 bits: self.reasons[cell(d, v)],

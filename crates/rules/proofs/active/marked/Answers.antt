@@ -1,21 +1,14 @@
-use Rattle.std.proofs.Common.{ap, ◌∙◌, arith}
-use Rattle.rules.proofs.Rounds.{marked_none, marked_more, marked_skip, marked_all}
-use Rattle.sets.specs.Members.{members}
+use Rattle.std.proofs.Common.{refl, ◌∙◌, rules, tests}
+use Rattle.std.proofs.lemmas.Iterator.{YieldsList-from_range, YieldsList-from_slice, YieldsList-from_zip}
+use Rattle.std.proofs.lemmas.Iterator.Consumers.{YieldsList-from_filter}
+use Rattle.rules.proofs.Folds.{gathered_by_fold}
+use Rattle.rules.proofs.Rounds.{numbers_marked}
 use Rattle.rules.proofs.active.marked.Goals as goal
-use Rattle.rules.proofs.active.marked.Goals.{then-decision, else-decision}
-
-pub loop-number-init : goal.loop-number-init
-loop-number-init c = marked_none c.args.decisions.now (members c.empty-set.result) c.empty-set.ensures
-
-pub loop-number-preserved : goal.loop-number-preserved
-loop-number-preserved c =
-    let ds = c.args.decisions.now in
-    let s = members c.loop-number.set in
-    let t = members c.if-decision.set in
-    elim c.if-decision.branch [
-      | then-decision w ↦ marked_more ds s t c.loop-number.number (omega arith) w.if-decision.true (ap members w.set-is ∙ w.with-set.ensures) c.loop-number.invariant
-      | else-decision w ↦ marked_skip ds s t c.loop-number.number w.if-decision.false (ap members w.set-is) c.loop-number.invariant
-    ]
 
 pub returns : goal.returns
-returns c = marked_all c.args.decisions.now (members c.loop-number.set) c.loop-number.number c.loop-number-test.false c.loop-number.invariant
+returns c =
+    let ds = c.args.decisions.now in
+    gathered_by_fold c.fold.ensures.ran
+    (YieldsList-from_filter _ (λ p. p.1.on) (YieldsList-from_zip (YieldsList-from_range 0 64 64 (cc) refl) (YieldsList-from_slice ds (cc))) c.filter.ensures.closure (λ x b q call. search (rules, tests)))
+    (λ p. p.0) c.empty.ensures (λ b x a q call. (search rules, search rules))
+    ∙ numbers_marked ds c.requires

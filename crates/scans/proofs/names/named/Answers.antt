@@ -1,14 +1,11 @@
-use Rattle.std.proofs.Common.{◌≡◌, ℕ, ◌&&◌, ◌||◌, eqb, ltb, ap, ◌∙◌, rules}
-use Rattle.std.proofs.lemmas.Fn.{fold_over, slice_gives, fronts}
-use Rattle.sets.specs.Members.{members}
-use Rattle.scans.proofs.Naming.{gathered, gathered_more, gathered_known}
+use Rattle.std.proofs.Common.{ap, ◌∙◌, rules}
+use Rattle.std.proofs.lemmas.Iterator.{YieldsList-from_slice}
+use Rattle.rules.proofs.Folds.{gathered, gathered_by_fold}
+use Rattle.rules.specs.declared.literal.Literal.{Literal}
+use Rattle.scans.proofs.Naming.{gathered_known}
 use Rattle.scans.proofs.names.named.Goals as goal
 
 pub returns : goal.returns
 returns c =
-    fold_over fronts (λ y. y.now) _ (λ ls s. members s ≡ gathered ls) _
-    (λ ls a x b f' j k.
-    let one : members b ≡ (λ (y : ℕ). members a y || (eqb y x.now.decision && ltb x.now.decision 64)) = search rules in
-    (gathered_more ls x.now (members a) (members b) j one, search rules))
-    _ _ _ _ (slice_gives c.iter.result) c.empty.ensures c.fold.ensures.ran
-    ∙ ap gathered (c.iter.ensures.rest ∙ c.condition.ensures) ∙ gathered_known _ c.requires
+    gathered_by_fold c.fold.ensures.ran (YieldsList-from_slice _ c.iter.ensures.rest) (λ l. l.decision) c.empty.ensures (λ b x a q call. (search rules, search rules))
+    ∙ ap (gathered (λ (l : Literal). l.decision)) c.condition.ensures ∙ gathered_known _ c.requires

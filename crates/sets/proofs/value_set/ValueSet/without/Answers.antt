@@ -1,17 +1,10 @@
 -- One bit removed is one value removed, and outside 1 to 16 there is none to remove.
-use Rattle.std.proofs.Common.{ap, ◌∙◌, arith}
-use Rattle.std.proofs.Common.{inl, inr}
-use Rattle.sets.specs.Members.{values}
-use Rattle.sets.proofs.Values.{no_value_above, no_value_zero, values_without, values_without_none}
+use Rattle.std.proofs.Common.{sym}
+use Rattle.sets.proofs.Values.{no_value, value_range, values_without, values_without_none}
 use Rattle.sets.proofs.value_set.ValueSet.without.Goals as goal
 
-pub returns-then-v-le16 : goal.returns-then-v-le16
-returns-then-v-le16 c = values_without c.args.self c.args.v (omega arith) (omega arith)
+pub returns-then-is_value : goal.returns-then-is_value
+returns-then-is_value c = let (low, high) = value_range c.args.v (sym c.if-is_value.ensures) in values_without c.args.self c.args.v low high
 
-pub returns-else-v-ge1 : goal.returns-else-v-ge1
-returns-else-v-ge1 c =
-    values_without_none c.args.self c.args.v
-    (elim c.else-v-ge1.either [
-      | inl h ↦ no_value_above c.args.self c.args.v h.1
-      | inr h ↦ ap (values c.args.self) (omega arith) ∙ no_value_zero c.args.self
-    ])
+pub returns-else-is_value : goal.returns-else-is_value
+returns-else-is_value c = values_without_none c.args.self c.args.v (no_value c.args.self c.args.v (sym c.if-is_value.ensures))

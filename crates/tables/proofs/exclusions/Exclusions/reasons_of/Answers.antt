@@ -2,7 +2,7 @@ use Rattle.std.proofs.Common.{◌≡◌, ◌+◌, ◌∙◌, refl, rules, arith}
 use Rattle.std.proofs.lemmas.Iterator.{YieldsList-from_range}
 use Rattle.sets.specs.Members.{members}
 use Rattle.tables.specs.Excluded.{exclusions_of}
-use Rattle.tables.proofs.Folds.{kept_by_fold}
+use Rattle.rules.proofs.Folds.{kept_by_fold}
 use Rattle.tables.proofs.Frees.{gathered, gathered_is, gathered_more}
 use Rattle.tables.proofs.exclusions.Exclusions.reasons_of.Goals as goal
 
