@@ -1,5 +1,5 @@
 -- The decision that is picked, of a list of those that wait.
-use Rattle.std.proofs.Common.{◌≡◌, ℕ, zero, suc, ◌<◌, ◌≤◌, Bool, true, false, cond, eqb, ltb, List, [], ◌∷◌, ◌++◌, map, filter, length, MatchOption, Some, None, Option, ◌⊎◌, inl, inr, sym, refl, ap, ◌∙◌, subst, ap₂, add-one, arith}
+use Rattle.std.proofs.Common.{◌≡◌, ℕ, zero, suc, ◌<◌, ◌≤◌, Bool, true, false, cond, eqb, ltb, List, [], ◌∷◌, filter, length, MatchOption, Some, None, Option, ◌⊎◌, inl, inr, sym, refl, ap, ◌∙◌, subst, ap₂, arith}
 use Rattle.std.specs.Borrow.{Bor}
 use Rattle.std.specs.Fn.{CalledAt}
 use Rattle.std.specs.Iterator.{Drains, DrainsIf, KeyTurn, PicksMinByKey}
@@ -11,12 +11,12 @@ use Rattle.std.proofs.lemmas.Bool.{cases_order, eq-eqb, le-ltb, lt-ltb, ne_eqb}
 use Rattle.std.proofs.lemmas.Iterator.{YieldsList, items_from_drains}
 use Rattle.std.proofs.lemmas.List.{map-id}
 use Rattle.std.proofs.lemmas.List.Elements.{filter-append}
-use Rattle.std.proofs.lemmas.List.FromFn.{map-range_with_len_more}
 use Rattle.std.proofs.lemmas.List.Sums.{fold-append}
 use denote.Param.Members.{Mut}
 use Rattle.account.proofs.Finds.{Picked, picked}
 use Rattle.account.specs.Steps.{pick, prefer}
 use Rattle.rules.specs.Plans.{Book}
+use Rattle.tables.proofs.Ranges.{next_in_range}
 use Rattle.tables.specs.declared.domain.Domain.{Domain}
 use Rattle.planner.specs.Books.{IsDomain}
 
@@ -37,17 +37,11 @@ module _ (ranks : ℕ → ℕ) where
   abbrev more : Option ℕ → ℕ → Option ℕ
   more o d = prefer ranks true d o
 
-  -- so many numbers, and the next
-  next_number : (n : ℕ) → range_with_len 0 (suc n) ≡ range_with_len 0 n ++ n ∷ []
-  next_number n =
-      sym (map-id (range_with_len 0 (suc n))) ∙ ap (λ (k : ℕ). map (λ (x : ℕ). x) (range_with_len 0 k)) (sym (add-one n))
-      ∙ map-range_with_len_more (λ (x : ℕ). x) 0 n n (omega arith) ∙ ap (λ (xs : List ℕ). xs ++ n ∷ []) (map-id (range_with_len 0 n))
-
   -- the pick of the first n is what is preferred of those that wait
   preferred_of : (waiting : ℕ → Bool) (n : ℕ) → fold more None (filter waiting (range_with_len 0 n)) ≡ pick ranks waiting n
   preferred_of waiting zero = refl
   preferred_of waiting (suc n) =
-      ap (λ (xs : List ℕ). fold more None (filter waiting xs)) (next_number n)
+      ap (λ (xs : List ℕ). fold more None (filter waiting xs)) (next_in_range 0 n n (omega arith))
       ∙ ap (fold more None) (filter-append waiting (range_with_len 0 n) (n ∷ []))
       ∙ fold-append more None (filter waiting (range_with_len 0 n)) (filter waiting (n ∷ []))
       ∙ ap (λ (o : Option ℕ). fold more o (filter waiting (n ∷ []))) (preferred_of waiting n)

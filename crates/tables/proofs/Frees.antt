@@ -2,7 +2,7 @@
 use Rattle.std.proofs.Common.{List, [], ◌∷◌, ◌++◌, ◌≡◌, ℕ, zero, suc, ◌+◌, ◌<◌, ◌≤◌, min, Bool, true, false, cond, not, ◌||◌, Some, None, Option, sym, refl, ap, ◌∙◌, ap₂, arith}
 use Rattle.std.specs.List.{fold, list_any, range_with_len}
 use Rattle.std.proofs.lemmas.List.Folds.{list_any-append}
-use Rattle.tables.proofs.Ranges.{next_value}
+use Rattle.tables.proofs.Ranges.{next_in_range}
 use Rattle.std.proofs.lemmas.List.Sums.{fold-append}
 use Rattle.rules.specs.Plans.{Set}
 use Rattle.rules.specs.Refusals.{or_else, when}
@@ -63,12 +63,12 @@ gathered_more ex vs v all after before new =
 pub gathered_is : (ex : ℕ → Option Exclusion) (n : ℕ) → gathered ex (range_with_len 1 n) ≡ reasons ex n
 gathered_is ex zero = refl
 gathered_is ex (suc n) =
-    ap (gathered ex) (next_value n) ∙ fold-append (λ s v. either s (reason_of (ex v))) nobody (range_with_len 1 n) (suc n ∷ [])
+    ap (gathered ex) (next_in_range 1 n (suc n) (omega arith)) ∙ fold-append (λ s v. either s (reason_of (ex v))) nobody (range_with_len 1 n) (suc n ∷ [])
     ∙ ap (λ (s : Set). either s (reason_of (ex (suc n)))) (gathered_is ex n)
 
 -- whether one of the values 1 to n rests
 pub any_rests_is : (ex : ℕ → Option Exclusion) (n : ℕ) → list_any (λ v. rests_on (ex v)) (range_with_len 1 n) ≡ any_rests ex n
 any_rests_is ex zero = refl
 any_rests_is ex (suc n) =
-    ap (list_any (λ v. rests_on (ex v))) (next_value n) ∙ list_any-append (λ v. rests_on (ex v)) (range_with_len 1 n) (suc n ∷ [])
+    ap (list_any (λ v. rests_on (ex v))) (next_in_range 1 n (suc n) (omega arith)) ∙ list_any-append (λ v. rests_on (ex v)) (range_with_len 1 n) (suc n ∷ [])
     ∙ ap₂ (λ (a b : Bool). a || b) (any_rests_is ex n) (or_failed (rests_on (ex (suc n))) false refl)
