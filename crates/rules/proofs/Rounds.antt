@@ -1,7 +1,8 @@
 -- The active decisions, as rounds over a set of the first 64 find them.
-use Rattle.std.proofs.Common.{◌≡◌, ℕ, zero, suc, ◌+◌, ◌-◌, ◌<◌, ◌≤◌, Bool, true, false, cond, ◌&&◌, ◌||◌, eqb, ltb, leb, ◌⊎◌, List, [], ◌∷◌, length, filter, sym, refl, ap, ◌∙◌, ap₂, ⊎_elim, inl, inr, zero-le, arith}
+use Rattle.std.proofs.Common.{◌≡◌, ℕ, zero, suc, ◌+◌, ◌-◌, ◌<◌, ◌≤◌, Bool, true, false, cond, ◌&&◌, ◌||◌, eqb, ltb, leb, ◌⊎◌, List, [], ◌∷◌, length, get_or, drop, filter, sym, refl, ap, ◌∙◌, ap₂, ⊎_elim, inl, inr, zero-le, arith}
 use mathlib.Core.Path.{fun_ext}
-use mathlib.Core.Bool.{and-true, and-false, or-false}
+use mathlib.Core.Bool.{and-true, and-false, or-false, or_assoc}
+use Rattle.std.proofs.lemmas.List.{at_drop_more}
 use Rattle.std.specs.List.{range_with_len, zip}
 use Rattle.std.proofs.lemmas.Bool.{eqb-true, eq-eqb, ne_eqb, and_right, cases_lt, cases_order, lt-ltb, lt-leb, le-leb}
 use Rattle.rules.proofs.Folds.{gathered}
@@ -75,24 +76,28 @@ target_low d t l = go (eqb d t) refl
     go true e = lt-ltb t 64 (omega (arith, eqb-true d t e))
     go false e = refl
 
--- the targets of rows
-abbrev aimed : List Row → Set
-aimed rs = gathered (λ r. r.target) rs
+module _ (k : Row → Bool) (p : Plan) (rs : List Row) (i : ℕ) (r : Row) (l : i < length rs) (d : ℕ) where
+  abbrev pub row : Row
+  row = get_or rs i r
 
--- the targets of the rows that count and are met are those that are enabled
-pub aimed_enabled : (k : Row → Bool) (p : Plan) (rs : List Row) (d : ℕ) → d < 64 → gathered (λ r. r.target) (filter (λ r. k r && met p r) rs) d ≡ enables (filter k rs) p d
-aimed_enabled k p [] d low = refl
-aimed_enabled k p (r ∷ rs) d low = at (k r) (met p r) refl (aimed_enabled k p rs d low)
-  where
-    later : Bool
-    later = enables (filter k rs) p d
+  abbrev pub later : Bool
+  later = enables (filter k (drop (i + 1) rs)) p d
 
-    -- the row's own target, with whether it is met
-    own : (b : Bool) → met p r ≡ b → (eqb d r.target && b) ≡ (eqb d r.target && met p r)
-    own b e = ap (λ (x : Bool). eqb d r.target && x) (sym e)
+  -- the rows that count, one more of them or not
+  next_enables : (b : Bool) → (k row && met p row) ≡ b → enables (filter k (drop i rs)) p d ≡ ((eqb d row.target && b) || later)
+  next_enables b h = at_drop_more (λ (xs : List Row). enables (filter k xs) p d) rs i r l ∙ go (k row) refl
+    where
+      go : (a : Bool) → k row ≡ a → enables (cond a (row ∷ filter k (drop (i + 1) rs)) (filter k (drop (i + 1) rs))) p d ≡ ((eqb d row.target && b) || later)
+      go true e = ap (λ (x : Bool). (eqb d row.target && x) || later) (sym (ap (λ (x : Bool). x && met p row) e) ∙ h)
+      go false e = ap (λ (x : Bool). x || later) (sym (and-false (eqb d row.target)) ∙ ap (λ (x : Bool). eqb d row.target && x) (sym (ap (λ (x : Bool). x && met p row) e) ∙ h))
 
-    at : (a b : Bool) → met p r ≡ b → aimed (filter (λ x. k x && met p x) rs) d ≡ later
-        → aimed (cond (a && b) (r ∷ filter (λ x. k x && met p x) rs) (filter (λ x. k x && met p x) rs)) d ≡ enables (cond a (r ∷ filter k rs) (filter k rs)) p d
-    at false b e rest = rest
-    at true false e rest = rest ∙ ap (λ (x : Bool). x || later) (sym (and-false (eqb d r.target)) ∙ own false e)
-    at true true e rest = ap₂ (λ (x y : Bool). x || y) (target_low d r.target low ∙ sym (and-true (eqb d r.target)) ∙ own true e) rest
+  -- one that counts and is met is gathered
+  pub enables_more : (s : Bool) → d < 64 → (k row && met p row) ≡ true → ((s || (eqb d row.target && ltb row.target 64)) || later) ≡ (s || enables (filter k (drop i rs)) p d)
+  enables_more s low h =
+      ap (λ (b : Bool). (s || b) || later) (target_low d row.target low ∙ sym (and-true (eqb d row.target)))
+      ∙ or_assoc s (eqb d row.target && true) later
+      ∙ ap (λ (b : Bool). s || b) (sym (next_enables true h))
+
+  -- another gives nothing
+  pub enables_skip : (k row && met p row) ≡ false → later ≡ enables (filter k (drop i rs)) p d
+  enables_skip h = sym (next_enables false h ∙ ap (λ (b : Bool). b || later) (and-false (eqb d row.target)))

@@ -49,9 +49,14 @@ fn fires<C: Counting>(row: &Row, plan: &[u8]) -> bool
 pub fn enabled<C: Counting>(rows: &[Row], plan: &[u8]) -> DecisionSet
     ensures { (d : ℕ) → d < 64 → members result d ≡ enables (filter C.counted rows.now) (from_bytes plan.now) d }
 {
-    rows.iter()
-        .filter(|row| fires::<C>(row, plan))
-        .fold(DecisionSet::empty(), |set, row| set.with(row.target))
+    // By a loop: with a chain of `filter` and `fold` a step of the search takes a thirtieth longer.
+    let mut targets = DecisionSet::empty();
+    for row in rows {
+        if fires::<C>(row, plan) {
+            targets = targets.with(row.target);
+        }
+    }
+    targets
 }
 
 /// The active decisions: those marked on, and in as many rounds as there are decisions what their choices enable.

@@ -19,6 +19,7 @@ pub enum Kind {
 }
 
 /// A plain copy of a rule. Its condition is its first `count` pairs.
+// Pairs with their number beside: a table is to hold rows that are plain copies, and an `ArrayVec` is none.
 #[derive(Clone, Copy, Debug, Default, PartialEq, Eq)]
 pub struct Row {
     pub kind: Kind,
