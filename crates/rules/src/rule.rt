@@ -34,6 +34,7 @@ impl Rule {
     /// The rule of a kind with these pairs, this target and this price; a target or a price that the kind lacks is 0.
     /// Refuses if the pairs are not one to four, then if their decisions do not strictly ascend, then if a price
     /// rule's cents are over 1,000,000,000.
+    // Four parameters, and no struct of them: `compose` takes them so, and its form is asked for.
     pub fn of(kind: Kind, pairs: &[Literal], target: u8, price: Price) -> Result<Rule, Refusal>
         ensures { MatchResult result (λ rule. (compose_refusal kind pairs.now price ≡ None) × (rule.row ≡ composed kind pairs.now target price)) (λ refusal. compose_refusal kind pairs.now price ≡ Some refusal) }
     {
