@@ -8,6 +8,7 @@ use crate::{Kind, Literal, Refusal, Row, compose};
 use measure::Price;
 
 /// A rule: one to four pairs in strictly ascending order of decision.
+// `full` is what the array's type says: the proofs of a rule's parts, which see no type, have it from here.
 #[derive(Clone, Copy)]
 pub struct Rule {
     row: Row,

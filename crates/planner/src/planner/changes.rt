@@ -5,13 +5,13 @@ ghost use Rattle.account.specs.Changes.{added, best_meets, held, if_lawful, reop
 ghost use Rattle.planner.specs.Answers.{says_done};
 ghost use Rattle.planner.specs.Bests.{unless_told};
 ghost use Rattle.planner.specs.Planners.{account_of};
-ghost use Rattle.tables.specs.Shapes.{shaped};
 
 use crate::planner::Planner;
 use crate::weighing::{best_unless, repriced_best, still_lawful};
 use account::State;
 use measure::Measure;
 use rules::{Kind, Refusal, Row, Rule, check_row};
+use tables::ShapedRow;
 
 /// The most rules of one kind.
 const MOST_RULES: usize = 256;
@@ -28,7 +28,7 @@ impl<M: Measure> Planner<M> {
         if self.book.rows(row.kind).len() >= MOST_RULES {
             return Err(Refusal::TableFull);
         }
-        self.put_in(row);
+        self.put_in(ShapedRow { row });
         Ok(())
     }
 
@@ -45,14 +45,13 @@ impl<M: Measure> Planner<M> {
     }
 
     /// Puts an accepted rule in, and keeps what still holds.
-    fn put_in(&mut self, row: Row)
-        requires shape { shaped row ≡ true }
-        requires room { length (held (account_of self.old).book row.kind) < 256 }
-        ensures { account_of self.new ≡ added M.meaning (account_of self.old) row.kind row }
+    fn put_in(&mut self, shaped: ShapedRow)
+        requires { length (held (account_of self.old).book shaped.row.kind) < 256 }
+        ensures { account_of self.new ≡ added M.meaning (account_of self.old) shaped.row.kind shaped.row }
     {
-        let met = self.best_meets(&row);
-        self.book.add(row);
-        match row.kind {
+        let met = self.best_meets(&shaped.row);
+        self.book.add(shaped);
+        match shaped.row.kind {
             Kind::Forbid => self.reopen_forbidding(met),
             Kind::Activate => self.reopen_rejudged(),
             Kind::Price => self.reopen_repriced(!met),

@@ -1,4 +1,4 @@
-use Rattle.std.proofs.Common.{length, sym, refl, ap, ◌∙◌, arith, rules}
+use Rattle.std.proofs.Common.{length, sym, refl, ap, ◌∙◌, arith}
 use Rattle.std.proofs.lemmas.Result.{err_from_is_err_and}
 use Rattle.account.specs.Calls.{add}
 use Rattle.account.specs.Changes.{added, held}
@@ -21,15 +21,13 @@ returns-in_err-check_row g c =
     let (told, left) = refuses m a (add c.args.rule.now) _ (rule_refused m a c.args.rule.now row ds (held a.book row.kind) c.row-row.ensures c.decisions.ensures.value refl _ why) in
     record { value = rw (p.1, p.2) told; after = left }
 
+pub invariant_of-put_in : goal.invariant_of-put_in
+invariant_of-put_in g c =
+    let none = accepted_none (row_refusal c.decisions.result.now c.row-row.result) _ (sym c.in_ok-check_row.ensures) in
+    record { shape = rule_shaped c.args.rule.now c.row-row.result c.decisions.result.now c.row-row.ensures c.decisions.ensures.few none }
+
 pub put_in-requires : goal.put_in-requires
-put_in-requires g c =
-    let none = accepted_none (row_refusal c.decisions.result.now c.row-row.result) _ (sym c.in_ok-check_row.ensures) in (
-      search rules,
-      (
-        rule_shaped c.args.rule.now c.row-row.result c.decisions.result.now c.row-row.ensures c.decisions.ensures.few none,
-        omega (arith, c.if-rows-ge-MOST_RULES.false, ap length c.rows.ensures.value),
-      ),
-    )
+put_in-requires g c = omega (arith, c.if-rows-ge-MOST_RULES.false, ap length c.rows.ensures.value)
 
 pub returns : goal.returns
 returns g c =
