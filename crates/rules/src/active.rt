@@ -23,6 +23,7 @@ fn marked(decisions: &[Decision]) -> DecisionSet
 fn choice(plan: &[u8], set: DecisionSet, decision: u8) -> u8
     ensures { result ≡ within (members set) (from_bytes plan.now) decision }
 {
+    // By 0 for none: that is how a plan's bytes say it.
     if set.has(decision) {
         value_of(plan, decision)
     } else {

@@ -37,6 +37,7 @@ pub fn row_of(kind: Kind, pairs: &[Literal], target: u8, price: Price) -> Row
     requires { length pairs.now ≤ 4 }
     ensures { result ≡ composed kind pairs.now target price }
 {
+    // A cast: there are four pairs at most, and a `try_from` would say a failure that there is not.
     Row {
         kind,
         count: pairs.len() as u8,

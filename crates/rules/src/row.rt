@@ -19,7 +19,7 @@ pub enum Kind {
 }
 
 /// A plain copy of a rule. Its condition is its first `count` pairs.
-// Pairs with their number beside: a table is to hold rows that are plain copies, and an `ArrayVec` is none.
+// A count beside four places: a row is wanted in this form, and an `ArrayVec` would be no plain copy.
 #[derive(Clone, Copy, Debug, Default, PartialEq, Eq)]
 pub struct Row {
     pub kind: Kind,
@@ -57,7 +57,7 @@ impl Row {
     pub fn condition(&self) -> &[Literal]
         ensures { result.now ≡ condition self.now }
     {
-        let count = (self.count as usize).min(4);
+        let count = usize::from(self.count).min(4);
         &self.pairs[0..count]
     }
 

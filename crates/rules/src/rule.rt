@@ -8,6 +8,7 @@ use crate::{Kind, Literal, Refusal, Row, compose};
 use measure::Price;
 
 /// A rule: one to four pairs in strictly ascending order of decision.
+// `full` is what the array's type says: the proofs of a rule's parts, which see no type, have it from here.
 #[derive(Clone, Copy)]
 pub struct Rule {
     row: Row,
@@ -34,6 +35,7 @@ impl Rule {
     /// The rule of a kind with these pairs, this target and this price; a target or a price that the kind lacks is 0.
     /// Refuses if the pairs are not one to four, then if their decisions do not strictly ascend, then if a price
     /// rule's cents are over 1,000,000,000.
+    // Four parameters, and no struct of them: `compose` takes them so, and its form is asked for.
     pub fn of(kind: Kind, pairs: &[Literal], target: u8, price: Price) -> Result<Rule, Refusal>
         ensures { MatchResult result (λ rule. (compose_refusal kind pairs.now price ≡ None) × (rule.row ≡ composed kind pairs.now target price)) (λ refusal. compose_refusal kind pairs.now price ≡ Some refusal) }
     {

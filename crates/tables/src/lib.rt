@@ -6,6 +6,7 @@ mod entry;
 mod exclusions;
 mod retreat;
 mod rule_table;
+mod shaped_row;
 mod trail;
 
 pub use domain::{Choice, Domain};
@@ -13,4 +14,5 @@ pub use entry::Entry;
 pub use exclusions::Exclusions;
 pub use retreat::Retreat;
 pub use rule_table::RuleTable;
+pub use shaped_row::ShapedRow;
 pub use trail::Trail;

@@ -5,14 +5,14 @@ ghost use Rattle.account.specs.Changes.{held, with_rules};
 ghost use Rattle.rules.specs.Judging.{open_refusal, sized};
 ghost use Rattle.rules.specs.Refusals.{as_result, unless_refused};
 ghost use Rattle.scans.specs.Known.{Known};
-ghost use Rattle.tables.specs.Shapes.{all_shaped, shaped};
+ghost use Rattle.tables.specs.Shapes.{all_shaped};
 ghost use Rattle.tables.specs.Tables.{table_rows};
 ghost use Rattle.planner.specs.Books.{IsDomain, book_of, over_decisions};
 
 use crate::book::Book;
 use arrayvec::ArrayVec;
 use rules::{Decision, Kind, Refusal, Row, check_decisions};
-use tables::{Domain, RuleTable};
+use tables::{Domain, RuleTable, ShapedRow};
 
 impl Book {
     ghost use Rattle.std.specs.Borrow.{sem};
@@ -97,12 +97,11 @@ impl Book {
     }
 
     /// Puts a rule last of its kind.
-    pub fn add(&mut self, row: Row)
-        requires shape { shaped row ≡ true }
-        requires room { length (held (book_of self.old) row.kind) < 256 }
-        ensures { book_of self.new ≡ with_rules (book_of self.old) row.kind (held (book_of self.old) row.kind ++ row ∷ []) }
+    pub fn add(&mut self, shaped: ShapedRow)
+        requires { length (held (book_of self.old) shaped.row.kind) < 256 }
+        ensures { book_of self.new ≡ with_rules (book_of self.old) shaped.row.kind (held (book_of self.old) shaped.row.kind ++ shaped.row ∷ []) }
     {
-        self.table_mut(row.kind).push(row);
+        self.table_mut(shaped.row.kind).push(shaped);
     }
 
     /// Takes out the rule of a kind at a place; later ones of the kind move down by one.

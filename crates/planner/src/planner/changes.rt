@@ -5,13 +5,13 @@ ghost use Rattle.account.specs.Changes.{added, best_meets, held, if_lawful, reop
 ghost use Rattle.planner.specs.Answers.{says_done};
 ghost use Rattle.planner.specs.Bests.{unless_told};
 ghost use Rattle.planner.specs.Planners.{account_of};
-ghost use Rattle.tables.specs.Shapes.{shaped};
 
 use crate::planner::Planner;
 use crate::weighing::{best_unless, repriced_best, still_lawful};
 use account::State;
 use measure::Measure;
 use rules::{Kind, Refusal, Row, Rule, check_row};
+use tables::ShapedRow;
 
 /// The most rules of one kind.
 const MOST_RULES: usize = 256;
@@ -29,7 +29,7 @@ impl<M: Measure> Planner<M> {
             return Err(Refusal::TableFull);
         }
         let met = self.best_meets(&row);
-        self.book.add(row);
+        self.book.add(ShapedRow { row });
         match row.kind {
             Kind::Forbid => self.reopen_forbidding(met),
             Kind::Activate => self.reopen_rejudged(),

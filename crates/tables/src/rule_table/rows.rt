@@ -1,9 +1,10 @@
 //! The calls on a table of rules.
 ghost use Rattle.std.specs.Prelude.{◌≡◌, ◌<◌, ◌≤◌, true, [], ◌∷◌, ◌++◌, length};
 ghost use Rattle.std.specs.List.{remove};
-ghost use Rattle.tables.specs.Shapes.{all_shaped, shaped};
+ghost use Rattle.tables.specs.Shapes.{all_shaped};
 ghost use Rattle.tables.specs.Tables.{table_rows};
 
+use crate::ShapedRow;
 use crate::rule_table::RuleTable;
 use arrayvec::ArrayVec;
 use rules::Row;
@@ -42,15 +43,16 @@ impl RuleTable {
     }
 
     /// Puts one more rule behind the others.
-    pub fn push(&mut self, row: Row)
-        requires shape { shaped row ≡ true }
-        requires room { length (table_rows self.old) < 256 }
-        ensures { table_rows self.new ≡ table_rows self.old ++ row ∷ [] }
+    // Room is asked for: it is a fact of the table beside the row, so no type of the row could carry it.
+    pub fn push(&mut self, shaped: ShapedRow)
+        requires { length (table_rows self.old) < 256 }
+        ensures { table_rows self.new ≡ table_rows self.old ++ shaped.row ∷ [] }
     {
-        self.rows.push(row);
+        self.rows.push(shaped.row);
     }
 
     /// Takes a rule out; those behind it move up by one place.
+    // That the place is there is asked for: a number that kept it would have to borrow the table that is changed.
     pub fn remove(&mut self, place: usize)
         requires { place < length (table_rows self.old) }
         ensures { table_rows self.new ≡ remove (table_rows self.old) place }

@@ -11,6 +11,8 @@ use crate::{Choice, Entry, Retreat, Trail};
 use arrayvec::ArrayVec;
 use sets::DecisionSet;
 
+// Of casts in this file: an index is as plain by `as` as by `usize::from`.
+
 impl Trail {
     /// The trail with no entry.
     pub fn new() -> Trail

@@ -1,13 +1,10 @@
-use Rattle.std.proofs.Common.{◌≡◌, ℕ, length, filter, sym, refl, ap, ◌∙◌, add-one, arith}
+use Rattle.std.proofs.Common.{ℕ, length, filter, sym, refl, ap, ◌∙◌, add-one, arith}
 use Rattle.rules.specs.Conditions.{from_bytes}
-use Rattle.rules.specs.Plans.{Set, on_at, rounds}
+use Rattle.rules.specs.Plans.{on_at, rounds}
 use Rattle.rules.proofs.Verdicts.{bytes_idle}
 use Rattle.sets.specs.Members.{members}
 use Rattle.rules.proofs.Rounds.{same_grown}
 use Rattle.rules.proofs.active.active_decisions.Goals as goal
-
-pub loop-init : goal.loop-init
-loop-init g c d low = ap (λ (s : Set). s d) c.marked-active.ensures
 
 pub loop-preserved : goal.loop-preserved
 loop-preserved g c d low =
@@ -18,8 +15,3 @@ loop-preserved g c d low =
     same_grown p (λ k h. bytes_idle bytes (length bytes) refl k (omega arith)) (members c.loop.active) (rounds c.loop.counter rs p on) c.loop.invariant rs (from_bytes c.choices-chosen.result) (members c.enabled.result)
     (members c.union-active.result) c.choices-chosen.ensures c.enabled.ensures c.union-active.ensures d low
     ∙ ap (λ (n : ℕ). rounds n rs p on d) (sym (add-one c.loop.counter))
-
-pub returns : goal.returns
-returns g c d low =
-    let done : c.loop.counter ≡ length c.args.decisions.now = omega arith in
-    c.loop.invariant d low ∙ ap (λ (n : ℕ). rounds n (filter g.C.Counting.counted c.args.rows.now) (from_bytes c.args.plan.now) (on_at c.args.decisions.now) d) done

@@ -1,5 +1,5 @@
 use Rattle.std.proofs.Common.{◌≡◌, ℕ, ◌+◌, ◌<◌, List, length, get_or, drop, Some, Ok, Err, Option, sym, ap, ◌∙◌}
-use Rattle.std.proofs.lemmas.List.{at_drop_more, at_drop_all}
+use Rattle.std.proofs.lemmas.List.{at_drop_more}
 use Rattle.std.proofs.lemmas.Result.{err_from_is_err_and}
 use Rattle.rules.specs.Judging.{row_refusal, rows_refusal}
 use Rattle.rules.specs.Refusals.{as_result, or_else}
@@ -29,7 +29,3 @@ pub loop-row-preserved : goal.loop-row-preserved
 loop-row-preserved c =
     c.loop-row.invariant
     ∙ accepted-here c.args.decisions.now c.args.rows.now c.loop-row.row-index _ c.loop-row-test.true _ (sym c.in_ok-check_row.ensures)
-
-pub returns : goal.returns
-returns c =
-    sym (ap as_result (c.loop-row.invariant ∙ at_drop_all (rows_refusal c.args.decisions.now) c.args.rows.now c.loop-row.row-index c.loop-row-test.false))

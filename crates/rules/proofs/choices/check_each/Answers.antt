@@ -1,11 +1,10 @@
-use Rattle.std.proofs.Common.{◌≡◌, ℕ, Bool, List, ◌∷◌, length, drop, sym, ap, ◌∙◌, below_more, inl, inr, arith, length-drop}
-use Rattle.std.proofs.lemmas.Result.{err_from_is_err_and}
+use Rattle.std.proofs.Common.{◌≡◌, ℕ, Bool, List, ◌∷◌, drop, sym, ap, ◌∙◌, below_more, arith}
 use Rattle.rules.specs.Conditions.{Plan, from_bytes}
 use Rattle.rules.specs.Plans.{Set, absent, size_at}
 use Rattle.rules.specs.declared.decision.Decision.{Decision}
 use Rattle.rules.specs.Searches.{misfit, misfit_at}
 use Rattle.sets.specs.Members.{members}
-use Rattle.rules.proofs.Grounds.{accepted_none, refused_some}
+use Rattle.rules.proofs.Grounds.{accepted_none}
 use Rattle.rules.proofs.Loops.{at_front}
 use Rattle.rules.proofs.choices.check_each.Goals as goal
 
@@ -25,25 +24,3 @@ loop-number-preserved c =
       left = sym (at_front ds _ _ _ (sym left)).2 ∙ ap (λ (n : ℕ). drop n ds) (sym r.1.2);
       before = λ k l. below_more _ _ c.loop-number.invariant.before now k (omega arith);
     }
-
-pub returns-in_err-check_choice : goal.returns-in_err-check_choice
-returns-in_err-check_choice c =
-    let ds = c.args.decisions.now in
-    let (r, s) = c.in-Some.ensures.steps in
-    let left = sym s ∙ c.loop-number.invariant.left in
-    let p = err_from_is_err_and c.from_residual.result c.from_residual.ensures.1 in
-    rw (p.1, p.2) (
-      c.loop-number.number-iterator.a.start,
-      (at_front ds _ _ _ (sym left)).0,
-      c.loop-number.invariant.before,
-      here ds (members c.args.active) (from_bytes c.args.plan.now) _ _ _ _ _ _ left r.1.1 c.has.ensures c.value_of.ensures ∙ refused_some _ _ (sym c.in_err-check_choice.ensures),
-    )
-
-pub returns : goal.returns
-returns c d l =
-    let i = c.loop-number.number-iterator.a.start in
-    c.loop-number.invariant.before d
-    (elim c.in-None.ensures.steps [
-      | inl (t, h) ↦ omega arith
-      | inr (t, h) ↦ omega (arith, ap length c.loop-number.invariant.left, length-drop i c.args.decisions.now)
-    ])

@@ -22,13 +22,13 @@ returns-in_err-check_row g c =
     let (told, left) = refuses m a (add c.args.rule.now) _ (rule_refused m a c.args.rule.now row ds (held a.book row.kind) c.row-row.ensures c.decisions.ensures.value refl _ why) in
     record { value = rw (p.1, p.2) told; after = left }
 
-pub add-requires : goal.add-requires
-add-requires g c =
+pub invariant_of-add : goal.invariant_of-add
+invariant_of-add g c =
     let none = accepted_none (row_refusal c.decisions.result.now c.row-row.result) _ (sym c.in_ok-check_row.ensures) in
-    record {
-      shape = rule_shaped c.args.rule.now c.row-row.result c.decisions.result.now c.row-row.ensures c.decisions.ensures.few none;
-      room = omega (arith, c.if-rows-ge-MOST_RULES.false, ap length c.rows.ensures.value);
-    }
+    record { shape = rule_shaped c.args.rule.now c.row-row.result c.decisions.result.now c.row-row.ensures c.decisions.ensures.few none }
+
+pub add-requires : goal.add-requires
+add-requires g c = omega (arith, c.if-rows-ge-MOST_RULES.false, ap length c.rows.ensures.value)
 
 pub returns-in-Forbid : goal.returns-in-Forbid
 returns-in-Forbid g c =
