@@ -22,7 +22,7 @@ use Rattle.grammar.proofs.Joins.{Lacks, at_byte, before_behind, drop_front, lack
 abbrev pub NoDigit : ℕ → Type 0
 NoDigit b = (d : ℕ) → d < 10 → 48 + d ≡ b → ⊥
 
-pub lacks_decimal : (b : ℕ) → NoDigit b → (n : ℕ) → n < 2 ^ 64 → Lacks b (decimal n)
+lacks_decimal : (b : ℕ) → NoDigit b → (n : ℕ) → n < 2 ^ 64 → Lacks b (decimal n)
 lacks_decimal b none =
     decimal_by_steps (λ n ds. Lacks b ds) (λ n h. lacks_more b (48 + n) [] (none n h) refl)
     (λ n ds h k. lacks_append b ds ((48 + n % 10) ∷ []) k (lacks_more b (48 + n % 10) [] (none (n % 10) (omega arith)) refl))
@@ -47,7 +47,7 @@ module _ (b : ℕ) (low : b < 48) where
   solid_mark false =
       (lacks_more b 111 (102 ∷ 102 ∷ []) (λ e. omega arith) (lacks_more b 102 (102 ∷ []) (λ e. omega arith) (lacks_more b 102 [] (λ e. omega arith) refl)), refl)
 
-  pub solid_pair : (l : Literal) → fitting_pair l ≡ true → Solid b (pair_text l)
+  solid_pair : (l : Literal) → fitting_pair l ≡ true → Solid b (pair_text l)
   unfolding pair_text
   solid_pair l h =
       let fit = and_parts (leb l.decision 255) (leb l.value 255) h in
@@ -77,7 +77,7 @@ module _ {X : Type 0} where
   unless_ok (Some d) r x e = absurd (err_ok d x e)
   unless_ok None r x e = (refl, e)
 
-  pub formed_ok : (n c : ℕ) (o : Option X) (x : X) → formed n c o ≡ Ok x → o ≡ Some x
+  formed_ok : (n c : ℕ) (o : Option X) (x : X) → formed n c o ≡ Ok x → o ≡ Some x
   formed_ok n c None x e = absurd (err_ok _ x e)
   formed_ok n c (Some y) x e = cc
 
@@ -118,7 +118,7 @@ mark_only f on e =
     (cond_some (bytes_eq (codes "on") f) true on (cond (bytes_eq (codes "off") f) (Some false) None) e)
 
 -- pairs
-pub pair_read : (l : Literal) → fitting_pair l ≡ true → pair_of (pair_text l) ≡ Some l
+pair_read : (l : Literal) → fitting_pair l ≡ true → pair_of (pair_text l) ≡ Some l
 unfolding pair_of pair_text
 pair_read l h =
     let fit = and_parts (leb l.decision 255) (leb l.value 255) h in
@@ -138,7 +138,7 @@ both_some (Some d) (Some v) l e =
     let r : record { decision = d; value = v } ≡ l = cc in
     (ap (λ (m : Literal). Some m.decision) r, ap (λ (m : Literal). Some m.value) r)
 
-pub pair_only : (f : List ℕ) (l : Literal) → pair_of f ≡ Some l → (f ≡ pair_text l) × (fitting_pair l ≡ true)
+pair_only : (f : List ℕ) (l : Literal) → pair_of f ≡ Some l → (f ≡ pair_text l) × (fitting_pair l ≡ true)
 unfolding pair_of pair_text
 pair_only f l e =
     let parts = both_some _ _ l e in

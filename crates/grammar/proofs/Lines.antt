@@ -78,7 +78,7 @@ kind_read F = refl
 kind_read A = refl
 kind_read P = refl
 
-pub line_only : (line : List ℕ) (k : LineKind) → kind_of line ≡ Some k → line ≡ byte_of k ∷ spaced (fields_of line)
+line_only : (line : List ℕ) (k : LineKind) → kind_of line ≡ Some k → line ≡ byte_of k ∷ spaced (fields_of line)
 line_only [] k e = absurd (none_some k e)
 line_only (x ∷ []) k e = absurd (none_some k e)
 line_only (x ∷ y ∷ ys) k e =
@@ -91,11 +91,11 @@ line_only (x ∷ y ∷ ys) k e =
     (λ (f : eqb y 32 ≡ false). absurd (none_some k (sym (cond-false (eqb y 32) (kind_by x) None f) ∙ e)))
     (cases_Bool (eqb y 32))
 
-pub line_kind : (k : LineKind) (fs : List (List ℕ)) → 1 ≤ length fs → kind_of (byte_of k ∷ spaced fs) ≡ Some k
+line_kind : (k : LineKind) (fs : List (List ℕ)) → 1 ≤ length fs → kind_of (byte_of k ∷ spaced fs) ≡ Some k
 line_kind k [] h = absurd (omega arith)
 line_kind k (f ∷ fs) h = kind_read k
 
-pub line_cut : (b : ℕ) (fs : List (List ℕ)) → 1 ≤ length fs → AllByRecursion (Lacks 32) fs → fields_of (b ∷ spaced fs) ≡ fs
+line_cut : (b : ℕ) (fs : List (List ℕ)) → 1 ≤ length fs → AllByRecursion (Lacks 32) fs → fields_of (b ∷ spaced fs) ≡ fs
 line_cut b [] h lacks = absurd (omega arith)
 line_cut b (f ∷ fs) h lacks = left_within 32 (b ∷ 32 ∷ (f ++ spaced fs)) 2 (omega arith) ∙ cut_spaced f fs lacks.0 lacks.1
 
@@ -190,7 +190,7 @@ price_only n fs s h e =
       fits = and_from _ _ r.0 (and_from _ _ ps.1 (and_from _ _ t.1 c.1));
     })
 
-pub fields_only : (k : LineKind) (n : ℕ) (fs : List (List ℕ)) (s : Stated) → first_bad k 0 3 fs ≡ None → heads k ≤ length fs → read_fields k n fs ≡ Ok s → States k fs s
+fields_only : (k : LineKind) (n : ℕ) (fs : List (List ℕ)) (s : Stated) → first_bad k 0 3 fs ≡ None → heads k ≤ length fs → read_fields k n fs ≡ Ok s → States k fs s
 fields_only D n fs s good h e = decision_only n fs s good h e
 fields_only F n fs s good h e = forbid_only n fs s e
 fields_only A n fs s good h e = activate_only n fs s h e
@@ -319,12 +319,12 @@ module _ (s : Stated) (h : fitting s ≡ true) where
   solid_line : AllByRecursion (Solid 32) (stated_fields s)
   solid_line = solid_fields 32 (omega arith) s h
 
-  pub fields_of_text : fields_of (line_text s) ≡ stated_fields s
+  fields_of_text : fields_of (line_text s) ≡ stated_fields s
   fields_of_text =
       ap fields_of (line_fields s)
       ∙ line_cut (byte_of (stated_kind s)) (stated_fields s) (some_field s h) (All-weaker (Solid 32) (Lacks 32) (λ f solid. solid.0) (stated_fields s) solid_line)
 
-  pub kind_of_text : kind_of (line_text s) ≡ Some (stated_kind s)
+  kind_of_text : kind_of (line_text s) ≡ Some (stated_kind s)
   kind_of_text = ap kind_of (line_fields s) ∙ line_kind (stated_kind s) (stated_fields s) (some_field s h)
 
   text_faultless : field_fault (stated_kind s) true (line_text s) ≡ None

@@ -8,7 +8,7 @@ use Rattle.rules.specs.declared.row.Row.{Row}
 use Rattle.rendering.specs.Texts.{spaced, ended, decision_line, rule_line, book_text, choice_line, choice_lines}
 
 -- lines behind lines
-pub ended_append : (ks ls : List (List ℕ)) → ended (ks ++ ls) ≡ ended ks ++ ended ls
+ended_append : (ks ls : List (List ℕ)) → ended (ks ++ ls) ≡ ended ks ++ ended ls
 ended_append [] ls = refl
 ended_append (k ∷ ks) ls = ap (λ (t : List ℕ). k ++ 10 ∷ t) (ended_append ks ls) ∙ sym (append_assoc k (10 ∷ ended ks) (ended ls))
 
@@ -18,7 +18,7 @@ spaced_append [] fs = refl
 spaced_append (e ∷ es) fs = ap (λ (t : List ℕ). 32 ∷ (e ++ t)) (spaced_append es fs) ∙ ap (λ (t : List ℕ). 32 ∷ t) (sym (append_assoc e (spaced es) (spaced fs)))
 
 -- a line for each item
-pub ended_each : {X : Type 0} (f : X → List ℕ) (xs : List X) → flat_map (λ x. f x ++ 10 ∷ []) xs ≡ ended (map f xs)
+ended_each : {X : Type 0} (f : X → List ℕ) (xs : List X) → flat_map (λ x. f x ++ 10 ∷ []) xs ≡ ended (map f xs)
 ended_each f [] = refl
 ended_each f (x ∷ xs) = ap (λ (t : List ℕ). (f x ++ 10 ∷ []) ++ t) (ended_each f xs) ∙ append_assoc (f x) (10 ∷ []) (ended (map f xs))
 

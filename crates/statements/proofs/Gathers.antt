@@ -13,7 +13,7 @@ push_few xs n x h few =
     take_more_set xs n x h ∙ sym (take_all 5 (take n xs ++ x ∷ []) (omega (arith, length_push (take n xs) x, length-take-le n xs (omega arith))))
 
 -- what is cut off does not matter to a later cut
-pub take_cut : {X : Type 0} (n : ℕ) (xs ys : List X) → take n (take n xs ++ ys) ≡ take n (xs ++ ys)
+take_cut : {X : Type 0} (n : ℕ) (xs ys : List X) → take n (take n xs ++ ys) ≡ take n (xs ++ ys)
 take_cut zero xs ys = refl
 take_cut (suc n) [] ys = refl
 take_cut (suc n) (x ∷ xs) ys = ap (λ l. x ∷ l) (take_cut n xs ys)
