@@ -15,10 +15,10 @@ returns g c =
     let heads : List (List ℕ) = head_fields row.kind row.target row.price in
     let pairs : List (List ℕ) = map pair_text (condition row) in
     let begun = after c.args.sink.now (letter row.kind) in
-    c.byte-2.ensures
+    c.byte.ensures
     ∙ ap (λ s. after s 10)
     (c.put_all.ensures
-    ∙ ap₂ (λ s (t : List ℕ). fold after s t) (c.put_head.ensures ∙ ap (λ s. fold after s (spaced heads)) (c.byte.ensures ∙ ap (after c.args.sink.now) c.first_byte.ensures))
+    ∙ ap₂ (λ s (t : List ℕ). fold after s t) (c.put_head.ensures ∙ ap (λ s. fold after s (spaced heads)) c.put.ensures)
     (ap (λ (ps : List Literal). flat_map (λ (p : Literal). 32 ∷ pair_text p) ps) c.condition.ensures ∙ spaced_each pair_text (condition row))
     ∙ sym (fold-append after begun (spaced heads) (spaced pairs)) ∙ ap (λ (t : List ℕ). fold after begun t) (sym (spaced_append heads pairs)))
     ∙ sym (fold_push after begun (spaced (heads ++ pairs)) 10)
