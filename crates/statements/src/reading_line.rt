@@ -26,7 +26,7 @@ fn read_rule(fields: Fields, kind: Kind, target: u8, price: Price) -> Result<Sta
     let line = fields.line();
     let pairs = fields.pairs()?;
     let count = pairs.as_slice().len();
-    if count < 1 || count > 4 {
+    if !(1..=4).contains(&count) {
         return Err(Fault::at_line(Refusal::PairCount, line));
     }
     Ok(Statement::Rule(Parts {
@@ -80,7 +80,11 @@ fn read_fields(known: &KnownLine) -> Result<Statement, Fault>
 pub fn read_line(line: &Line, began: bool) -> Result<Statement, Fault>
     ensures { on_ok stated_of result ≡ read_line began (line_of line.now) }
 {
-    let known = KnownLine::of(line).ok_or(Fault::at_line(Refusal::UnknownLine, line.number))?;
+    // A match: with `map_err` and `?` the proof did not close.
+    let known = match KnownLine::of(line) {
+        Ok(known) => known,
+        Err(refusal) => return Err(Fault::at_line(refusal, line.number)),
+    };
     if known.kind.is_late(began) {
         return Err(Fault::at_line(Refusal::DecisionAfterRule, line.number));
     }

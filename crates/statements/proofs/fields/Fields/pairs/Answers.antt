@@ -1,5 +1,5 @@
 use Rattle.std.proofs.Common.{◌≡◌, ℕ, ◌≤◌, List, length, Ok, Err, sym, refl, ap, ◌∙◌, arith, rules}
-use Rattle.std.proofs.lemmas.List.{length-take-le}
+use Rattle.std.proofs.lemmas.List.{length-take}
 use Rattle.std.proofs.lemmas.Result.{err_from_is_err_and}
 use Rattle.reading.specs.Cursors.{column, left}
 use Rattle.statements.specs.Forms.{pair_of}
@@ -7,9 +7,6 @@ use Rattle.statements.specs.Statements.{formed}
 use Rattle.statements.specs.Views.{on_ok, pairs_of}
 use Rattle.statements.proofs.Gathers.{bad_pair, no_pair, one_pair}
 use Rattle.statements.proofs.fields.Fields.pairs.Goals as goal
-
-pub loop-field-init : goal.loop-field-init
-loop-field-init c = let e = c.into_iter-field-iterator.ensures.into_iter_gives in let n = c.new-pairs.ensures in rw (e, n) refl
 
 pub returns-in_err-pair : goal.returns-in_err-pair
 returns-in_err-pair c =
@@ -32,5 +29,5 @@ loop-field-preserved c =
 
 pub returns : goal.returns
 returns c =
-    let few : length (pairs_of c.loop-field.pairs) ≤ 5 = omega (arith, length-take-le c.loop-field.pairs.count c.loop-field.pairs.list (omega (arith, c.loop-field.pairs.few, c.loop-field.pairs.full))) in
+    let few : length (pairs_of c.loop-field.pairs) ≤ 5 = omega (arith, length-take c.loop-field.pairs.count c.loop-field.pairs.list, c.loop-field.pairs.few) in
     sym (c.loop-field.invariant ∙ no_pair _ _ (pairs_of c.loop-field.pairs) _ c.in-None.ensures.steps.0 few)
