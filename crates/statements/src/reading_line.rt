@@ -11,6 +11,7 @@ use measure::Price;
 use rules::{Decision, Kind, Refusal};
 
 /// Reads a decision: its size, and its mark.
+#[tactic(auto, unfolding(crate::specs::Statements::read_decision))]
 fn read_decision(mut fields: Fields) -> Result<Statement, Fault>
     ensures { on_ok stated_of result ≡ read_decision fields.entry.line (place fields.entry) (remaining fields.entry) }
 {
@@ -38,6 +39,7 @@ fn read_rule(fields: Fields, kind: Kind, target: u8, price: Price) -> Result<Sta
 }
 
 /// Reads a forbid rule: its pairs.
+#[tactic(auto, unfolding(crate::specs::Statements::read_forbid))]
 fn read_forbid(fields: Fields) -> Result<Statement, Fault>
     ensures { on_ok stated_of result ≡ read_forbid fields.entry.line (place fields.entry) (remaining fields.entry) }
 {
@@ -45,6 +47,7 @@ fn read_forbid(fields: Fields) -> Result<Statement, Fault>
 }
 
 /// Reads an activate rule: its target, then its pairs.
+#[tactic(auto, unfolding(crate::specs::Statements::read_activate))]
 fn read_activate(mut fields: Fields) -> Result<Statement, Fault>
     ensures { on_ok stated_of result ≡ read_activate fields.entry.line (place fields.entry) (remaining fields.entry) }
 {
@@ -53,6 +56,7 @@ fn read_activate(mut fields: Fields) -> Result<Statement, Fault>
 }
 
 /// Reads a price rule: tier and cents, then its pairs.
+#[tactic(auto, unfolding(crate::specs::Statements::read_price))]
 fn read_price(mut fields: Fields) -> Result<Statement, Fault>
     ensures { on_ok stated_of result ≡ read_price fields.entry.line (place fields.entry) (remaining fields.entry) }
 {
