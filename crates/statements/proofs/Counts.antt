@@ -1,14 +1,11 @@
 -- The fields of a line counted one by one.
-use Rattle.std.proofs.Common.{◌≡◌, ℕ, ◌+◌, Bool, true, false, not, ◌||◌, List, [], ◌∷◌, length, Some, None, Option, refl, sym, ap, ◌∙◌}
-use Rattle.std.specs.Bool.{then_some}
-use Rattle.std.specs.Option.{option_or}
+use Rattle.std.proofs.Common.{◌≡◌, ℕ, ◌+◌, true, false, not, ◌||◌, List, [], ◌∷◌, length, Some, None, sym, ap, ◌∙◌}
 use Rattle.std.proofs.lemmas.Bool.{cond-false, cond-true}
 use Rattle.std.proofs.lemmas.Iterator.{YieldsList}
 use Rattle.std.proofs.lemmas.Iterator.Consumers.{YieldsList-from_shown}
 use Rattle.reading.specs.Cursors.{Taken, left}
 use Rattle.reading.specs.Pieces.{is_nil}
 use Rattle.reading.specs.declared.pieces.Pieces.{Pieces}
-use Rattle.rules.specs.Refusals.{or_else, when}
 use Rattle.statements.specs.Fields.{first_bad, takes_field}
 use Rattle.statements.specs.declared.line.LineKind.{LineKind}
 
@@ -31,10 +28,3 @@ module _ (k : LineKind) (n c : ℕ) where
   pub no_field : (fs : List (List ℕ)) → fs ≡ [] → first_bad k n c fs ≡ None
   unfolding first_bad
   no_field fs e = ap (first_bad k n c) e
-
--- the first answer, or the second where a test holds
-pub or_when : (o : Option ℕ) (t : Bool) (n : ℕ) → option_or o (then_some t n) ≡ or_else o (when t n)
-or_when None true n = refl
-or_when None false n = refl
-or_when (Some m) true n = refl
-or_when (Some m) false n = refl

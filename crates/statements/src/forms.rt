@@ -39,6 +39,7 @@ pub fn byte_of(field: &[u8]) -> Option<u8>
 }
 
 /// The pair that a field is, cut at its first equals sign.
+#[tactic(auto, using(crate::proofs::Shapes::paired_is), unfolding(crate::specs::Forms::pair_of))]
 pub fn pair_of(field: &[u8]) -> Option<Literal>
     ensures { result ≡ pair_of field.now }
 {

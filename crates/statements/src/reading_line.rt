@@ -81,6 +81,7 @@ fn read_fields(known: &KnownLine) -> Result<Statement, Fault>
 /// What a line states. Refuses, in this order: a line of no kind, a decision after a rule (`began` says if one came
 /// before), fields that are empty, too many or missing or a missing end, a field not of its form, pairs that are
 /// missing or more than four.
+#[tactic(auto, unfolding(crate::specs::Statements::read_line))]
 pub fn read_line(line: &Line, began: bool) -> Result<Statement, Fault>
     ensures { on_ok stated_of result ≡ read_line began (line_of line.now) }
 {
