@@ -15,8 +15,8 @@ use rules::{Decision, Kind, Refusal};
 fn read_decision(mut fields: Fields) -> Result<Statement, Fault>
     ensures { on_ok stated_of result ≡ read_decision fields.entry.line (place fields.entry) (remaining fields.entry) }
 {
-    let size = fields.byte()?;
-    let on = fields.mark()?;
+    let size = fields.field()?;
+    let on = fields.field()?;
     Ok(Statement::Decision(Decision { size, on }))
 }
 
@@ -51,7 +51,7 @@ fn read_forbid(fields: Fields) -> Result<Statement, Fault>
 fn read_activate(mut fields: Fields) -> Result<Statement, Fault>
     ensures { on_ok stated_of result ≡ read_activate fields.entry.line (place fields.entry) (remaining fields.entry) }
 {
-    let target = fields.byte()?;
+    let target = fields.field()?;
     read_rule(fields, Kind::Activate, target, Price::default())
 }
 
@@ -60,8 +60,8 @@ fn read_activate(mut fields: Fields) -> Result<Statement, Fault>
 fn read_price(mut fields: Fields) -> Result<Statement, Fault>
     ensures { on_ok stated_of result ≡ read_price fields.entry.line (place fields.entry) (remaining fields.entry) }
 {
-    let tier = fields.byte()?;
-    let cents = fields.number()?;
+    let tier = fields.field()?;
+    let cents = fields.field()?;
     read_rule(fields, Kind::Price, 0, Price { tier, cents })
 }
 
