@@ -68,6 +68,7 @@ impl<'a> Fields<'a> {
     }
 
     /// The fields to come, as pairs.
+    #[tactic(auto, using(crate::proofs::Gathers::one_pair))]
     pub fn pairs(self) -> Result<Pairs, Fault>
         ensures { on_ok pairs_of result ≡ on_ok (take 5) (read_pairs self.entry.line (place self.entry) (remaining self.entry)) }
     {
