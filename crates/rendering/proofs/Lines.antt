@@ -3,9 +3,12 @@ use Rattle.std.proofs.Common.{◌≡◌, ℕ, suc, ◌+◌, Bool, true, false, c
 use Rattle.std.specs.List.{flat_map, fold}
 use Rattle.std.proofs.lemmas.List.{map-append}
 use Rattle.std.proofs.lemmas.List.Sums.{fold-append}
+use Rattle.measure.specs.declared.price.Price.{Price}
 use Rattle.rules.specs.declared.decision.Decision.{Decision}
+use Rattle.rules.specs.declared.literal.Literal.{Literal}
+use Rattle.rules.specs.declared.row.Kind.{Kind}
 use Rattle.rules.specs.declared.row.Row.{Row}
-use Rattle.rendering.specs.Texts.{spaced, ended, decision_line, rule_line, book_text, choice_line, choice_lines}
+use Rattle.rendering.specs.Texts.{spaced, ended, decision_line, head_fields, letter, pair_text, parts_line, rule_line, book_text, choice_line, choice_lines}
 
 -- lines behind lines
 ended_append : (ks ls : List (List ℕ)) → ended (ks ++ ls) ≡ ended ks ++ ended ls
@@ -52,3 +55,13 @@ chosen_push vs v =
 module _ {S : Type 0} (f : S → ℕ → S) (s a b c d : S) (ds : List Decision) (fs ts ps : List Row) where
   pub book_lines : a ≡ fold f s (flat_map (λ x. decision_line x ++ 10 ∷ []) ds) → b ≡ fold f a (flat_map (λ r. rule_line r ++ 10 ∷ []) fs) → c ≡ fold f b (flat_map (λ r. rule_line r ++ 10 ∷ []) ts) → d ≡ fold f c (flat_map (λ r. rule_line r ++ 10 ∷ []) ps) → d ≡ fold f s (book_text ds (fs ++ (ts ++ ps)))
   book_lines p q r t = simp (t, r, q, p, ended_append, map-append, fold-append, ended_each decision_line, ended_each rule_line)
+
+-- the line of a rule, field by field
+module _ {S : Type 0} (f : S → ℕ → S) (s a b c d : S) (k : Kind) (ps : List Literal) (target : ℕ) (price : Price) where
+  pub row_line : a ≡ f s (letter k) → b ≡ fold f a (spaced (head_fields k target price)) → c ≡ fold f b (flat_map (λ p. 32 ∷ pair_text p) ps) → d ≡ f c 10 → d ≡ fold f s (parts_line k ps target price ++ 10 ∷ [])
+  unfolding parts_line
+  row_line p q r t =
+      let heads = spaced (head_fields k target price) in
+      let pairs = spaced (map pair_text ps) in
+      let begun = f s (letter k) in
+      simp (t, r, q, p, spaced_append, spaced_each pair_text) (sym (fold-append f begun (heads ++ pairs) (10 ∷ []) ∙ ap (λ u. f u 10) (fold-append f begun heads pairs)))

@@ -52,6 +52,7 @@ impl Text for Row {
     ghost text = { λ r. rule_line r ++ 10 ∷ [] };
 
     /// The rule's line.
+    #[tactic(auto, using(crate::proofs::Lines::row_line))]
     fn put<S: Sink>(&self, sink: &mut S) {
         self.kind.put(sink);
         put_head(sink, self);
