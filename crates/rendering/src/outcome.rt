@@ -46,6 +46,7 @@ fn put_choice<S: Sink>(sink: &mut S, decision: usize, value: u8)
 }
 
 /// Puts a line for each chosen decision of a plan.
+#[tactic(auto, using(crate::proofs::Lines::chosen_more, crate::proofs::Lines::idle_more))]
 fn put_choices<S: Sink>(sink: &mut S, plan: &[u8])
     ensures { sink.new ≡ fold S.after sink.old (ended (choice_lines 0 plan.now)) }
 {
