@@ -26,7 +26,7 @@ use Rattle.statements.specs.declared.line.LineKind.TheVariants.{Decision as D, F
 use Rattle.grammar.specs.Grammar.{fitting, fitting_head, fitting_pairs, is_decided, line_text}
 use Rattle.grammar.specs.Laws.{ReadsOnlyText, TextIsRead}
 use Rattle.rules.proofs.Grounds.{when_none, or_else_none}
-use Rattle.grammar.proofs.Forms.{cond_none, cond_some, decimal_only, decimal_read, mapped_none, mark_only, mark_read, none_some, err_ok, Solid, solid_decimal, solid_mark, solid_pairs, pairs_only, pairs_read, then_formed, then_ok, unless_ok}
+use Rattle.grammar.proofs.Forms.{cond_none, cond_some, decimal_only, decimal_read, mapped_none, mark_only, mark_read, Solid, solid_decimal, solid_mark, solid_pairs, pairs_only, pairs_read, then_formed, then_ok, unless_ok}
 use Rattle.grammar.proofs.Joins.{Lacks, cut_spaced, spaced_pieces}
 
 -- the byte that a line of a kind begins with
@@ -67,7 +67,7 @@ kind_byte b k e =
     (λ (e : cond (eqb b 65) (Some A) (cond (eqb b 80) (Some P) None) ≡ Some k).
     ⊎_elim (λ (t : (eqb b 65 ≡ true) × (A ≡ k)). eqb-true b 65 t.0 ∙ ap byte_of t.1)
     (λ (e : cond (eqb b 80) (Some P) None ≡ Some k).
-    ⊎_elim (λ (t : (eqb b 80 ≡ true) × (P ≡ k)). eqb-true b 80 t.0 ∙ ap byte_of t.1) (λ (e : None ≡ Some k). absurd (none_some k e)) (cond_some (eqb b 80) P k None e))
+    ⊎_elim (λ (t : (eqb b 80 ≡ true) × (P ≡ k)). eqb-true b 80 t.0 ∙ ap byte_of t.1) (λ (e : None ≡ Some k). cc) (cond_some (eqb b 80) P k None e))
     (cond_some (eqb b 65) A k _ e))
     (cond_some (eqb b 70) F k _ e))
     (cond_some (eqb b 68) D k _ e)
@@ -79,8 +79,8 @@ kind_read A = refl
 kind_read P = refl
 
 line_only : (line : List ℕ) (k : LineKind) → kind_of line ≡ Some k → line ≡ byte_of k ∷ spaced (fields_of line)
-line_only [] k e = absurd (none_some k e)
-line_only (x ∷ []) k e = absurd (none_some k e)
+line_only [] k e = cc
+line_only (x ∷ []) k e = cc
 line_only (x ∷ y ∷ ys) k e =
     ⊎_elim
     (λ (t : eqb y 32 ≡ true).
@@ -88,7 +88,7 @@ line_only (x ∷ y ∷ ys) k e =
     ∙ ap (λ (b : ℕ). byte_of k ∷ b ∷ ys) (eqb-true y 32 t)
     ∙ ap (λ (t : List ℕ). byte_of k ∷ t) (sym (spaced_pieces ys))
     ∙ ap (λ (fs : List (List ℕ)). byte_of k ∷ spaced fs) (sym (left_within 32 (x ∷ y ∷ ys) 2 (omega arith))))
-    (λ (f : eqb y 32 ≡ false). absurd (none_some k (sym (cond-false (eqb y 32) (kind_by x) None f) ∙ e)))
+    (λ (f : eqb y 32 ≡ false). let z = sym (cond-false (eqb y 32) (kind_by x) None f) ∙ e in cc)
     (cases_Bool (eqb y 32))
 
 line_kind : (k : LineKind) (fs : List (List ℕ)) → 1 ≤ length fs → kind_of (byte_of k ∷ spaced fs) ≡ Some k
@@ -204,7 +204,7 @@ decided_kind (rules Activate ps target price) = refl
 decided_kind (rules Priced ps target price) = refl
 
 kind_only : (began : Bool) (l : TextLine) (s : Stated) (o : Option LineKind) → kind_of l.bytes ≡ o → read_as began l o ≡ Ok s → (l.bytes ≡ line_text s) × (l.ended ≡ true) × (fitting s ≡ true) × ((began && is_decided s) ≡ false)
-kind_only began l s None k e = absurd (err_ok _ s e)
+kind_only began l s None k e = cc
 kind_only began l s (Some kind) k e =
     let early = unless_ok (when (began && is_decision kind) (fault DecisionAfterRule l.number 1)) _ s e in
     let whole = unless_ok (option_map (fault FieldCount l.number) (field_fault kind l.ended l.bytes)) _ s early.1 in
