@@ -23,6 +23,7 @@ use Rattle.statements.specs.Statements.{Stated, decides, fault, formed, front, p
 use Rattle.statements.specs.declared.fault.Fault.{Fault}
 use Rattle.statements.specs.declared.line.LineKind.{LineKind}
 use Rattle.statements.specs.declared.line.LineKind.TheVariants.{Decision as D, Forbid as F, Activate as A, Price as P}
+use Rattle.rules.proofs.Recomposing.{free_price}
 use Rattle.grammar.specs.Grammar.{fitting, fitting_head, fitting_pairs, is_decided, line_text}
 use Rattle.grammar.specs.Laws.{ReadsOnlyText, TextIsRead}
 use Rattle.rules.proofs.Grounds.{when_none, or_else_none}
@@ -228,13 +229,6 @@ reads_only_text began l s e = kind_only began l s (kind_of l.bytes) refl e
 ruled_read : (n : ℕ) (k : Kind) (ps : List Literal) (target : ℕ) (price : Price) → (leb 1 (length ps) && leb (length ps) 4) ≡ true → ruled n k ps target price ≡ Ok (rules k ps target price)
 ruled_read n k ps target price h = ap (λ (t : Bool). unless (when (not t) (fault PairCount n 1)) (Ok (rules k ps target price))) h
 
--- the parts of a rule that its kind lacks are 0
-free_price : (price : Price) → (eqb price.tier 0 && eqb price.cents 0) ≡ true → free ≡ price
-free_price price h =
-    let zero = and_parts (eqb price.tier 0) (eqb price.cents 0) h in
-    ap (λ (t : ℕ). record { tier = t; cents = 0 }) (sym (eqb-true price.tier 0 zero.0))
-    ∙ ap (λ (c : ℕ). record { tier = price.tier; cents = c }) (sym (eqb-true price.cents 0 zero.1))
-
 fields_read : (s : Stated) → fitting s ≡ true → (n : ℕ) → read_fields (stated_kind s) n (stated_fields s) ≡ Ok s
 unfolding read_decision read_forbid read_activate read_price
 fields_read (decides d) h n =
@@ -248,7 +242,7 @@ fields_read (rules Forbid ps target price) h n =
     ap (λ (r : Result (List Literal) Fault). then r (λ qs. ruled n Forbid qs 0 free)) (pairs_read n 3 ps parts.0)
     ∙ ruled_read n Forbid ps 0 free fit.0
     ∙ ap (λ (t : ℕ). Ok (rules Forbid ps t free)) (sym (eqb-true target 0 none.0))
-    ∙ ap (λ (p : Price). Ok (rules Forbid ps target p)) (free_price price none.1)
+    ∙ ap (λ (p : Price). Ok (rules Forbid ps target p)) (sym (free_price price none.1))
 fields_read (rules Activate ps target price) h n =
     let fit = and_parts (leb 1 (length ps) && leb (length ps) 4) _ h in
     let parts = and_parts (fitting_pairs ps) _ fit.1 in
@@ -257,7 +251,7 @@ fields_read (rules Activate ps target price) h n =
     ap (λ (o : Option ℕ). then (formed n 3 o) (λ t. then (read_pairs n c (map pair_text ps)) (λ qs. ruled n Activate qs t free))) (decimal_read 255 target (omega arith) head.0)
     ∙ ap (λ (r : Result (List Literal) Fault). then r (λ qs. ruled n Activate qs target free)) (pairs_read n c ps parts.0)
     ∙ ruled_read n Activate ps target free fit.0
-    ∙ ap (λ (p : Price). Ok (rules Activate ps target p)) (free_price price head.1)
+    ∙ ap (λ (p : Price). Ok (rules Activate ps target p)) (sym (free_price price head.1))
 fields_read (rules Priced ps target price) h n =
     let fit = and_parts (leb 1 (length ps) && leb (length ps) 4) _ h in
     let parts = and_parts (fitting_pairs ps) _ fit.1 in

@@ -14,7 +14,7 @@ kept : {X : Type 0} (b t : Bool) (x y : X) → (t ≡ true → x ≡ y) → (b |
 kept true t x y same h = refl
 kept false t x y same h = same h
 
-free_price : (p : Price) → is_free p ≡ true → p ≡ free
+pub free_price : (p : Price) → is_free p ≡ true → p ≡ free
 free_price p h =
     let (tier, cents) = and_parts (eqb p.tier 0) (eqb p.cents 0) h in
     let of : ℕ → ℕ → Price = λ t c. record { tier = t; cents = c } in
