@@ -108,6 +108,5 @@ decimal_from_read limit n ds small e =
     (decimal_from_number ds p.0 (omega arith) ∙ ap decimal v, omega arith))
     (λ (no_number : (is_number ds && leb (value ds) limit) ≡ false).
     let s : None ≡ Some n = sym (cond-false _ (Some (value ds)) None no_number) ∙ e in
-    let z : ◌≡◌ {A = ℕ} 0 1 = cc in
-    absurd (omega arith))
+    cc)
     (cases_Bool (is_number ds && leb (value ds) limit))
