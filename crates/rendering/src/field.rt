@@ -31,7 +31,7 @@ impl Text for u64 {
 impl Text for usize {
     ghost text = { decimal };
 
-    /// The decimal digits of a line, a column or a place. It is cast, since `u64` is not `From` it.
+    /// The decimal digits of a line, a column or a place: by a cast, since `u64` is not `From` a `usize`.
     fn put<S: Sink>(&self, sink: &mut S) {
         sink.number(*self as u64);
     }
