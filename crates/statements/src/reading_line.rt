@@ -85,7 +85,7 @@ fn read_fields(known: &KnownLine) -> Result<Statement, Fault>
 pub fn read_line(line: &Line, began: bool) -> Result<Statement, Fault>
     ensures { on_ok stated_of result ≡ read_line began (line_of line.now) }
 {
-    // A match: with `map_err` and `?` the proof did not close.
+    // A match: with `map_err` the proof of the refusal did not close, since nothing was known of what the closure gave.
     let known = match KnownLine::of(line) {
         Ok(known) => known,
         Err(refusal) => return Err(Fault::at_line(refusal, line.number)),
