@@ -22,7 +22,7 @@ use Rattle.grammar.proofs.Joins.{Lacks, at_byte, before_behind, drop_front, lack
 abbrev pub NoDigit : ℕ → Type 0
 NoDigit b = (d : ℕ) → d < 10 → 48 + d ≡ b → ⊥
 
-pub lacks_decimal : (b : ℕ) → NoDigit b → (n : ℕ) → n < 2 ^ 64 → Lacks b (decimal n)
+lacks_decimal : (b : ℕ) → NoDigit b → (n : ℕ) → n < 2 ^ 64 → Lacks b (decimal n)
 lacks_decimal b none =
     decimal_by_steps (λ n ds. Lacks b ds) (λ n h. lacks_more b (48 + n) [] (none n h) refl)
     (λ n ds h k. lacks_append b ds ((48 + n % 10) ∷ []) k (lacks_more b (48 + n % 10) [] (none (n % 10) (omega arith)) refl))
@@ -47,7 +47,7 @@ module _ (b : ℕ) (low : b < 48) where
   solid_mark false =
       (lacks_more b 111 (102 ∷ 102 ∷ []) (λ e. omega arith) (lacks_more b 102 (102 ∷ []) (λ e. omega arith) (lacks_more b 102 [] (λ e. omega arith) refl)), refl)
 
-  pub solid_pair : (l : Literal) → fitting_pair l ≡ true → Solid b (pair_text l)
+  solid_pair : (l : Literal) → fitting_pair l ≡ true → Solid b (pair_text l)
   unfolding pair_text
   solid_pair l h =
       let fit = and_parts (leb l.decision 255) (leb l.value 255) h in
@@ -63,22 +63,19 @@ module _ (b : ℕ) (low : b < 48) where
 
 -- what an answer says of the parts that it is made of
 module _ {X : Type 0} where
-  pub none_some : (x : X) → None ≡ Some x → ⊥
-  none_some x e = let z : ◌≡◌ {A = ℕ} 0 1 = cc in omega arith
-
   pub err_ok : {E : Type 0} (d : E) (x : X) → Err d ≡ Ok x → ⊥
-  err_ok d x e = let z : ◌≡◌ {A = ℕ} 0 1 = cc in omega arith
+  err_ok d x e = cc
 
   pub then_ok : {Y E : Type 0} (r : Result X E) (f : X → Result Y E) (y : Y) → then r f ≡ Ok y → (x : X) × ((r ≡ Ok x) × (f x ≡ Ok y))
   then_ok (Ok x) f y e = (x, (refl, e))
-  then_ok (Err d) f y e = let z : ◌≡◌ {A = ℕ} 0 1 = cc in absurd (omega arith)
+  then_ok (Err d) f y e = cc
 
   pub unless_ok : {E : Type 0} (o : Option E) (r : Result X E) (x : X) → unless o r ≡ Ok x → (o ≡ None) × (r ≡ Ok x)
-  unless_ok (Some d) r x e = absurd (err_ok d x e)
+  unless_ok (Some d) r x e = cc
   unless_ok None r x e = (refl, e)
 
-  pub formed_ok : (n c : ℕ) (o : Option X) (x : X) → formed n c o ≡ Ok x → o ≡ Some x
-  formed_ok n c None x e = absurd (err_ok _ x e)
+  formed_ok : (n c : ℕ) (o : Option X) (x : X) → formed n c o ≡ Ok x → o ≡ Some x
+  formed_ok n c None x e = cc
   formed_ok n c (Some y) x e = cc
 
   pub cond_some : (t : Bool) (x y : X) (o : Option X) → cond t (Some x) o ≡ Some y → ((t ≡ true) × (x ≡ y)) ⊎ (o ≡ Some y)
@@ -86,12 +83,12 @@ module _ {X : Type 0} where
   cond_some false x y o e = inr e
 
   pub cond_none : (t : Bool) (x : X) (o : Option X) → cond t (Some x) o ≡ None → (t ≡ false) × (o ≡ None)
-  cond_none true x o e = absurd (none_some x (sym e))
+  cond_none true x o e = cc
   cond_none false x o e = (refl, e)
 
   pub mapped_none : {Y : Type 0} (f : X → Y) (o : Option X) → option_map f o ≡ None → o ≡ None
   mapped_none f None e = refl
-  mapped_none f (Some x) e = let z : ◌≡◌ {A = ℕ} 0 1 = cc in absurd (omega arith)
+  mapped_none f (Some x) e = cc
 
 -- a field that is read, and what follows
 pub then_formed : {X Y : Type 0} (n c : ℕ) (o : Option X) (f : X → Result Y Fault) (y : Y) → then (formed n c o) f ≡ Ok y → (x : X) × ((o ≡ Some x) × (f x ≡ Ok y))
@@ -114,11 +111,11 @@ mark_only f on e =
     ⊎_elim (λ (t : (bytes_eq (codes "on") f ≡ true) × (true ≡ on)). sym ((bytes_eq-Decides (codes "on") f).0 t.0) ∙ ap mark_text t.1)
     (λ (r : cond (bytes_eq (codes "off") f) (Some false) None ≡ Some on).
     ⊎_elim (λ (t : (bytes_eq (codes "off") f ≡ true) × (false ≡ on)). sym ((bytes_eq-Decides (codes "off") f).0 t.0) ∙ ap mark_text t.1)
-    (λ (r : None ≡ Some on). absurd (none_some on r)) (cond_some (bytes_eq (codes "off") f) false on None r))
+    (λ (r : None ≡ Some on). cc) (cond_some (bytes_eq (codes "off") f) false on None r))
     (cond_some (bytes_eq (codes "on") f) true on (cond (bytes_eq (codes "off") f) (Some false) None) e)
 
 -- pairs
-pub pair_read : (l : Literal) → fitting_pair l ≡ true → pair_of (pair_text l) ≡ Some l
+pair_read : (l : Literal) → fitting_pair l ≡ true → pair_of (pair_text l) ≡ Some l
 unfolding pair_of pair_text
 pair_read l h =
     let fit = and_parts (leb l.decision 255) (leb l.value 255) h in
@@ -132,13 +129,13 @@ pair_read l h =
     ap (λ (o : Option ℕ). both o (number_up_to 255 (drop (before 61 (d ++ 61 ∷ v) + 1) (d ++ 61 ∷ v)))) p ∙ ap (both (Some l.decision)) q
 
 both_some : (a b : Option ℕ) (l : Literal) → both a b ≡ Some l → (a ≡ Some l.decision) × (b ≡ Some l.value)
-both_some None b l e = absurd (none_some l e)
-both_some (Some d) None l e = absurd (none_some l e)
+both_some None b l e = cc
+both_some (Some d) None l e = cc
 both_some (Some d) (Some v) l e =
     let r : record { decision = d; value = v } ≡ l = cc in
     (ap (λ (m : Literal). Some m.decision) r, ap (λ (m : Literal). Some m.value) r)
 
-pub pair_only : (f : List ℕ) (l : Literal) → pair_of f ≡ Some l → (f ≡ pair_text l) × (fitting_pair l ≡ true)
+pair_only : (f : List ℕ) (l : Literal) → pair_of f ≡ Some l → (f ≡ pair_text l) × (fitting_pair l ≡ true)
 unfolding pair_of pair_text
 pair_only f l e =
     let parts = both_some _ _ l e in
@@ -148,7 +145,7 @@ pair_only f l e =
     (λ (has : before 61 f < length f).
     (at_byte 61 f has ∙ ap (λ (t : List ℕ). t ++ 61 ∷ drop (before 61 f + 1) f) d.0 ∙ ap (λ (t : List ℕ). decimal l.decision ++ 61 ∷ t) v.0, and_from _ _ d.1 v.1))
     (λ (whole : length f ≤ before 61 f).
-    absurd (none_some l.value (none_if_empty 255 (drop (before 61 f + 1) f) (omega (arith, ap length (drop_all (before 61 f + 1) f (omega arith)))) ∙ parts.1)))
+    let z = none_if_empty 255 (drop (before 61 f + 1) f) (omega (arith, ap length (drop_all (before 61 f + 1) f (omega arith)))) ∙ parts.1 in cc)
     (cases_lt (before 61 f) (length f))
 
 pub pairs_read : (n c : ℕ) (ps : List Literal) → fitting_pairs ps ≡ true → read_pairs n c (map pair_text ps) ≡ Ok ps

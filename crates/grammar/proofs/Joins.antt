@@ -33,7 +33,7 @@ module _ (b : ℕ) where
       (elim (eqb x b) as (λ t. cond t 0 (suc (before b xs)) ≡ suc (length xs) → cond t 0 (suc (before b (xs ++ b ∷ ys))) ≡ suc (length xs))
       [ true ↦ λ e. absurd (omega arith) | false ↦ λ e. ap suc (before_behind xs ys (omega arith)) ]) h
 
-  pub cut_behind : (xs ys : List ℕ) → Lacks b xs → pieces b (xs ++ b ∷ ys) ≡ xs ∷ pieces b ys
+  cut_behind : (xs ys : List ℕ) → Lacks b xs → pieces b (xs ++ b ∷ ys) ≡ xs ∷ pieces b ys
   unfolding pieces
   cut_behind [] ys h = cond-true (eqb b b) ([] ∷ pieces b ys) (longer b (pieces b ys)) (eq-eqb b b refl)
   cut_behind (x ∷ xs) ys h =
@@ -85,7 +85,7 @@ pub ended_closed : (ls : List (List ℕ)) → ended ls ≡ closed 10 ls
 ended_closed [] = refl
 ended_closed (l ∷ ls) = ap (λ (t : List ℕ). l ++ 10 ∷ t) (ended_closed ls)
 
-pub spaced_closed : (fs : List (List ℕ)) → spaced fs ++ 32 ∷ [] ≡ 32 ∷ closed 32 fs
+spaced_closed : (fs : List (List ℕ)) → spaced fs ++ 32 ∷ [] ≡ 32 ∷ closed 32 fs
 spaced_closed [] = refl
 spaced_closed (f ∷ fs) = ap (λ (t : List ℕ). 32 ∷ t) (append_assoc f (spaced fs) (32 ∷ []) ∙ ap (λ (t : List ℕ). f ++ t) (spaced_closed fs))
 

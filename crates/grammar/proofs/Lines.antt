@@ -23,10 +23,11 @@ use Rattle.statements.specs.Statements.{Stated, decides, fault, formed, front, p
 use Rattle.statements.specs.declared.fault.Fault.{Fault}
 use Rattle.statements.specs.declared.line.LineKind.{LineKind}
 use Rattle.statements.specs.declared.line.LineKind.TheVariants.{Decision as D, Forbid as F, Activate as A, Price as P}
+use Rattle.rules.proofs.Recomposing.{free_price}
 use Rattle.grammar.specs.Grammar.{fitting, fitting_head, fitting_pairs, is_decided, line_text}
 use Rattle.grammar.specs.Laws.{ReadsOnlyText, TextIsRead}
 use Rattle.rules.proofs.Grounds.{when_none, or_else_none}
-use Rattle.grammar.proofs.Forms.{cond_none, cond_some, decimal_only, decimal_read, mapped_none, mark_only, mark_read, none_some, err_ok, Solid, solid_decimal, solid_mark, solid_pairs, pairs_only, pairs_read, then_formed, then_ok, unless_ok}
+use Rattle.grammar.proofs.Forms.{cond_none, cond_some, decimal_only, decimal_read, mapped_none, mark_only, mark_read, Solid, solid_decimal, solid_mark, solid_pairs, pairs_only, pairs_read, then_formed, then_ok, unless_ok}
 use Rattle.grammar.proofs.Joins.{Lacks, cut_spaced, spaced_pieces}
 
 -- the byte that a line of a kind begins with
@@ -67,7 +68,7 @@ kind_byte b k e =
     (λ (e : cond (eqb b 65) (Some A) (cond (eqb b 80) (Some P) None) ≡ Some k).
     ⊎_elim (λ (t : (eqb b 65 ≡ true) × (A ≡ k)). eqb-true b 65 t.0 ∙ ap byte_of t.1)
     (λ (e : cond (eqb b 80) (Some P) None ≡ Some k).
-    ⊎_elim (λ (t : (eqb b 80 ≡ true) × (P ≡ k)). eqb-true b 80 t.0 ∙ ap byte_of t.1) (λ (e : None ≡ Some k). absurd (none_some k e)) (cond_some (eqb b 80) P k None e))
+    ⊎_elim (λ (t : (eqb b 80 ≡ true) × (P ≡ k)). eqb-true b 80 t.0 ∙ ap byte_of t.1) (λ (e : None ≡ Some k). cc) (cond_some (eqb b 80) P k None e))
     (cond_some (eqb b 65) A k _ e))
     (cond_some (eqb b 70) F k _ e))
     (cond_some (eqb b 68) D k _ e)
@@ -78,9 +79,9 @@ kind_read F = refl
 kind_read A = refl
 kind_read P = refl
 
-pub line_only : (line : List ℕ) (k : LineKind) → kind_of line ≡ Some k → line ≡ byte_of k ∷ spaced (fields_of line)
-line_only [] k e = absurd (none_some k e)
-line_only (x ∷ []) k e = absurd (none_some k e)
+line_only : (line : List ℕ) (k : LineKind) → kind_of line ≡ Some k → line ≡ byte_of k ∷ spaced (fields_of line)
+line_only [] k e = cc
+line_only (x ∷ []) k e = cc
 line_only (x ∷ y ∷ ys) k e =
     ⊎_elim
     (λ (t : eqb y 32 ≡ true).
@@ -88,14 +89,14 @@ line_only (x ∷ y ∷ ys) k e =
     ∙ ap (λ (b : ℕ). byte_of k ∷ b ∷ ys) (eqb-true y 32 t)
     ∙ ap (λ (t : List ℕ). byte_of k ∷ t) (sym (spaced_pieces ys))
     ∙ ap (λ (fs : List (List ℕ)). byte_of k ∷ spaced fs) (sym (left_within 32 (x ∷ y ∷ ys) 2 (omega arith))))
-    (λ (f : eqb y 32 ≡ false). absurd (none_some k (sym (cond-false (eqb y 32) (kind_by x) None f) ∙ e)))
+    (λ (f : eqb y 32 ≡ false). let z = sym (cond-false (eqb y 32) (kind_by x) None f) ∙ e in cc)
     (cases_Bool (eqb y 32))
 
-pub line_kind : (k : LineKind) (fs : List (List ℕ)) → 1 ≤ length fs → kind_of (byte_of k ∷ spaced fs) ≡ Some k
+line_kind : (k : LineKind) (fs : List (List ℕ)) → 1 ≤ length fs → kind_of (byte_of k ∷ spaced fs) ≡ Some k
 line_kind k [] h = absurd (omega arith)
 line_kind k (f ∷ fs) h = kind_read k
 
-pub line_cut : (b : ℕ) (fs : List (List ℕ)) → 1 ≤ length fs → AllByRecursion (Lacks 32) fs → fields_of (b ∷ spaced fs) ≡ fs
+line_cut : (b : ℕ) (fs : List (List ℕ)) → 1 ≤ length fs → AllByRecursion (Lacks 32) fs → fields_of (b ∷ spaced fs) ≡ fs
 line_cut b [] h lacks = absurd (omega arith)
 line_cut b (f ∷ fs) h lacks = left_within 32 (b ∷ 32 ∷ (f ++ spaced fs)) 2 (omega arith) ∙ cut_spaced f fs lacks.0 lacks.1
 
@@ -190,7 +191,7 @@ price_only n fs s h e =
       fits = and_from _ _ r.0 (and_from _ _ ps.1 (and_from _ _ t.1 c.1));
     })
 
-pub fields_only : (k : LineKind) (n : ℕ) (fs : List (List ℕ)) (s : Stated) → first_bad k 0 3 fs ≡ None → heads k ≤ length fs → read_fields k n fs ≡ Ok s → States k fs s
+fields_only : (k : LineKind) (n : ℕ) (fs : List (List ℕ)) (s : Stated) → first_bad k 0 3 fs ≡ None → heads k ≤ length fs → read_fields k n fs ≡ Ok s → States k fs s
 fields_only D n fs s good h e = decision_only n fs s good h e
 fields_only F n fs s good h e = forbid_only n fs s e
 fields_only A n fs s good h e = activate_only n fs s h e
@@ -204,7 +205,7 @@ decided_kind (rules Activate ps target price) = refl
 decided_kind (rules Priced ps target price) = refl
 
 kind_only : (began : Bool) (l : TextLine) (s : Stated) (o : Option LineKind) → kind_of l.bytes ≡ o → read_as began l o ≡ Ok s → (l.bytes ≡ line_text s) × (l.ended ≡ true) × (fitting s ≡ true) × ((began && is_decided s) ≡ false)
-kind_only began l s None k e = absurd (err_ok _ s e)
+kind_only began l s None k e = cc
 kind_only began l s (Some kind) k e =
     let early = unless_ok (when (began && is_decision kind) (fault DecisionAfterRule l.number 1)) _ s e in
     let whole = unless_ok (option_map (fault FieldCount l.number) (field_fault kind l.ended l.bytes)) _ s early.1 in
@@ -228,13 +229,6 @@ reads_only_text began l s e = kind_only began l s (kind_of l.bytes) refl e
 ruled_read : (n : ℕ) (k : Kind) (ps : List Literal) (target : ℕ) (price : Price) → (leb 1 (length ps) && leb (length ps) 4) ≡ true → ruled n k ps target price ≡ Ok (rules k ps target price)
 ruled_read n k ps target price h = ap (λ (t : Bool). unless (when (not t) (fault PairCount n 1)) (Ok (rules k ps target price))) h
 
--- the parts of a rule that its kind lacks are 0
-free_price : (price : Price) → (eqb price.tier 0 && eqb price.cents 0) ≡ true → free ≡ price
-free_price price h =
-    let zero = and_parts (eqb price.tier 0) (eqb price.cents 0) h in
-    ap (λ (t : ℕ). record { tier = t; cents = 0 }) (sym (eqb-true price.tier 0 zero.0))
-    ∙ ap (λ (c : ℕ). record { tier = price.tier; cents = c }) (sym (eqb-true price.cents 0 zero.1))
-
 fields_read : (s : Stated) → fitting s ≡ true → (n : ℕ) → read_fields (stated_kind s) n (stated_fields s) ≡ Ok s
 unfolding read_decision read_forbid read_activate read_price
 fields_read (decides d) h n =
@@ -248,7 +242,7 @@ fields_read (rules Forbid ps target price) h n =
     ap (λ (r : Result (List Literal) Fault). then r (λ qs. ruled n Forbid qs 0 free)) (pairs_read n 3 ps parts.0)
     ∙ ruled_read n Forbid ps 0 free fit.0
     ∙ ap (λ (t : ℕ). Ok (rules Forbid ps t free)) (sym (eqb-true target 0 none.0))
-    ∙ ap (λ (p : Price). Ok (rules Forbid ps target p)) (free_price price none.1)
+    ∙ ap (λ (p : Price). Ok (rules Forbid ps target p)) (sym (free_price price none.1))
 fields_read (rules Activate ps target price) h n =
     let fit = and_parts (leb 1 (length ps) && leb (length ps) 4) _ h in
     let parts = and_parts (fitting_pairs ps) _ fit.1 in
@@ -257,7 +251,7 @@ fields_read (rules Activate ps target price) h n =
     ap (λ (o : Option ℕ). then (formed n 3 o) (λ t. then (read_pairs n c (map pair_text ps)) (λ qs. ruled n Activate qs t free))) (decimal_read 255 target (omega arith) head.0)
     ∙ ap (λ (r : Result (List Literal) Fault). then r (λ qs. ruled n Activate qs target free)) (pairs_read n c ps parts.0)
     ∙ ruled_read n Activate ps target free fit.0
-    ∙ ap (λ (p : Price). Ok (rules Activate ps target p)) (free_price price head.1)
+    ∙ ap (λ (p : Price). Ok (rules Activate ps target p)) (sym (free_price price head.1))
 fields_read (rules Priced ps target price) h n =
     let fit = and_parts (leb 1 (length ps) && leb (length ps) 4) _ h in
     let parts = and_parts (fitting_pairs ps) _ fit.1 in
@@ -319,12 +313,12 @@ module _ (s : Stated) (h : fitting s ≡ true) where
   solid_line : AllByRecursion (Solid 32) (stated_fields s)
   solid_line = solid_fields 32 (omega arith) s h
 
-  pub fields_of_text : fields_of (line_text s) ≡ stated_fields s
+  fields_of_text : fields_of (line_text s) ≡ stated_fields s
   fields_of_text =
       ap fields_of (line_fields s)
       ∙ line_cut (byte_of (stated_kind s)) (stated_fields s) (some_field s h) (All-weaker (Solid 32) (Lacks 32) (λ f solid. solid.0) (stated_fields s) solid_line)
 
-  pub kind_of_text : kind_of (line_text s) ≡ Some (stated_kind s)
+  kind_of_text : kind_of (line_text s) ≡ Some (stated_kind s)
   kind_of_text = ap kind_of (line_fields s) ∙ line_kind (stated_kind s) (stated_fields s) (some_field s h)
 
   text_faultless : field_fault (stated_kind s) true (line_text s) ≡ None

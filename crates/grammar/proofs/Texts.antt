@@ -31,12 +31,12 @@ line_lacks s h =
     (lacks_more 10 (byte_of (stated_kind s)) (spaced (stated_fields s)) (λ (e : byte_of (stated_kind s) ≡ 10). omega (arith, high_byte (stated_kind s)))
     (lacks_spaced 10 (stated_fields s) (λ e. omega arith) lack))
 
-pub lines_lack : (ss : List Stated) → all_fitting ss ≡ true → AllByRecursion (Lacks 10) (map line_text ss)
+lines_lack : (ss : List Stated) → all_fitting ss ≡ true → AllByRecursion (Lacks 10) (map line_text ss)
 lines_lack [] h = tt
 lines_lack (s ∷ ss) h = let fit = and_parts (fitting s) (all_fitting ss) h in (line_lacks s fit.0, lines_lack ss fit.1)
 
 -- a piece with another behind it is a line that is ended
-pub numbered_more : (n : ℕ) (p : List ℕ) (ps : List (List ℕ)) → is_nil ps ≡ false → numbered n (p ∷ ps) ≡ record { bytes = p; number = n; ended = true } ∷ numbered (n + 1) ps
+numbered_more : (n : ℕ) (p : List ℕ) (ps : List (List ℕ)) → is_nil ps ≡ false → numbered n (p ∷ ps) ≡ record { bytes = p; number = n; ended = true } ∷ numbered (n + 1) ps
 unfolding numbered
 numbered_more n p ps h =
     cond-false (is_nil p && is_nil ps) [] (record { bytes = p; number = n; ended = not (is_nil ps) } ∷ numbered (n + 1) ps) (and_right (is_nil p) (is_nil ps) h)
@@ -73,7 +73,7 @@ ended_numbered n (p ∷ q ∷ qs) some h =
     ∙ sym (append_assoc p (10 ∷ ended (map (λ (l : TextLine). l.bytes) (numbered (n + 1) (q ∷ qs)))) (10 ∷ []))
     ∙ ap (λ (ts : List TextLine). ended (map (λ (l : TextLine). l.bytes) ts) ++ 10 ∷ []) (sym more)
 
-pub text_from : (n : ℕ) (text : List ℕ) → all_ended (numbered n (pieces 10 text)) ≡ true → text ≡ ended (map (λ (l : TextLine). l.bytes) (numbered n (pieces 10 text)))
+text_from : (n : ℕ) (text : List ℕ) → all_ended (numbered n (pieces 10 text)) ≡ true → text ≡ ended (map (λ (l : TextLine). l.bytes) (numbered n (pieces 10 text)))
 text_from n text h =
     append_cancel_right text (ended (map (λ (l : TextLine). l.bytes) (numbered n (pieces 10 text)))) (10 ∷ [])
     (sym (closed_pieces 10 text) ∙ sym (ended_closed (pieces 10 text)) ∙ ended_numbered n (pieces 10 text) (pieces_some 10 text) h)

@@ -1,28 +1,23 @@
-//! Lines and texts: a line is read as what it states and only that, and a text is its lines.
+//! Lines and texts: a line is read as what it states and only that, and a text is its lines. Each
+//! theorem is the contract of a function that has nothing to do.
 #![tactic(auto)]
 
 ghost use Rattle.grammar.specs.Laws.{LinesOfText, ReadsOnlyText, TextIsRead, TextOfLines};
 ghost use Rattle.grammar.specs.Shown.{TrickyLines};
 
 /// A line is read as what it states, and only that.
-pub fn lines_are_read_back() -> bool
+pub fn lines_are_read_back()
     ensures only { ReadsOnlyText }
     ensures back { TextIsRead }
-{
-    true
-}
+{}
 
 /// A text is its lines.
-pub fn texts_are_lines() -> bool
+pub fn texts_are_lines()
     ensures lines { LinesOfText }
     ensures text { TextOfLines }
-{
-    true
-}
+{}
 
 /// Tricky lines, and what each states or why it is refused.
-pub fn tricky_lines() -> bool
+pub fn tricky_lines()
     ensures { TrickyLines }
-{
-    true
-}
+{}

@@ -47,7 +47,7 @@ first_half b whole first o e h =
     chosen (Some p) h = h
 
 -- the first piece, and what is cut after it
-pub cut_first : (b : ℕ) (xs : List ℕ) → before b xs < length xs → pieces b xs ≡ take (before b xs) xs ∷ pieces b (drop (suc (before b xs)) xs)
+cut_first : (b : ℕ) (xs : List ℕ) → before b xs < length xs → pieces b xs ≡ take (before b xs) xs ∷ pieces b (drop (suc (before b xs)) xs)
 unfolding pieces
 cut_first b [] h = absurd (omega arith)
 cut_first b (x ∷ xs) h =
@@ -65,7 +65,7 @@ cut_last b (x ∷ xs) h =
     [ true ↦ λ k. absurd (omega arith) | false ↦ λ k. ap (longer x) (cut_last b xs (omega arith)) ]) h
 
 -- nothing is to come past the end
-pub left_past : (b : ℕ) (xs : List ℕ) (p : ℕ) → length xs < p → left_at b xs p ≡ []
+left_past : (b : ℕ) (xs : List ℕ) (p : ℕ) → length xs < p → left_at b xs p ≡ []
 left_past b xs p h = cond-false (leb p (length xs)) _ [] (lt-leb p (length xs) h)
 
 pub left_within : (b : ℕ) (xs : List ℕ) (p : ℕ) → p ≤ length xs → left_at b xs p ≡ pieces b (drop p xs)
@@ -109,7 +109,7 @@ behind b xs p n h =
     ap (pieces b) (drop-drop (suc n) p xs ∙ ap (λ (k : ℕ). drop k xs) e) ∙ sym (left_within b xs (p + n + 1) (omega arith))
 
 -- a cursor at p gives the bytes before the next b, and goes on behind it
-pub take_left : (b : ℕ) (xs : List ℕ) (p n : ℕ) → p ≤ length xs → n ≡ before b (drop p xs) → left_at b xs p ≡ take n (drop p xs) ∷ left_at b xs (p + n + 1)
+take_left : (b : ℕ) (xs : List ℕ) (p n : ℕ) → p ≤ length xs → n ≡ before b (drop p xs) → left_at b xs p ≡ take n (drop p xs) ∷ left_at b xs (p + n + 1)
 take_left b xs p n h e =
     left_within b xs p h
     ∙ ⊎_elim

@@ -23,10 +23,10 @@ module _ (limit : ℕ) (ds : List ℕ) where
   pub none_if_empty : length ds ≤ 0 → None ≡ number_up_to limit ds
   none_if_empty h = none_if_no_number (and_left _ _ (le-ltb 0 (length ds) h))
 
-  pub none_if_large : limit < value ds → None ≡ number_up_to limit ds
+  none_if_large : limit < value ds → None ≡ number_up_to limit ds
   none_if_large h = none (and_right (is_number ds) _ (lt-leb (value ds) limit h))
 
-  pub number_is : is_number ds ≡ true → value ds ≤ limit → Some (value ds) ≡ number_up_to limit ds
+  number_is : is_number ds ≡ true → value ds ≤ limit → Some (value ds) ≡ number_up_to limit ds
   unfolding number_up_to
   number_is is small = sym (cond-true (is_number ds && leb (value ds) limit) _ None (and_from _ _ is (le-leb (value ds) limit small)))
 
@@ -89,7 +89,7 @@ alone ds some plain first =
     (λ (other : eqb (get_or ds 0 0) 48 ≡ false). absurd (eqb-false (get_or ds 0 0) 48 other first)) (and_cases _ _ plain)
 
 -- a text that is a number is the decimal of its value
-pub decimal_from_number : (ds : List ℕ) → is_number ds ≡ true → value ds < 2 ^ 64 → ds ≡ decimal (value ds)
+decimal_from_number : (ds : List ℕ) → is_number ds ≡ true → value ds < 2 ^ 64 → ds ≡ decimal (value ds)
 decimal_from_number ds is small =
     let a = and_parts (ltb 0 (length ds)) _ is in
     let b = and_parts (not (leading_zero ds)) _ a.1 in
@@ -108,6 +108,5 @@ decimal_from_read limit n ds small e =
     (decimal_from_number ds p.0 (omega arith) ∙ ap decimal v, omega arith))
     (λ (no_number : (is_number ds && leb (value ds) limit) ≡ false).
     let s : None ≡ Some n = sym (cond-false _ (Some (value ds)) None no_number) ∙ e in
-    let z : ◌≡◌ {A = ℕ} 0 1 = cc in
-    absurd (omega arith))
+    cc)
     (cases_Bool (is_number ds && leb (value ds) limit))

@@ -1,4 +1,4 @@
-//! Reading text: the pieces between one byte and the next, numbers and words.
+//! Reading text: the pieces between one byte and the next, and numbers.
 
 #![tactic(auto)]
 

@@ -25,6 +25,7 @@ fn is_number(text: &[u8]) -> bool
 }
 
 /// The number that a text is: decimal digits with no leading zero, and at most the limit.
+#[tactic(auto, using(crate::proofs::Numerals::none_if_no_number, crate::proofs::Numerals::is_text))]
 pub fn number(text: &[u8], limit: u32) -> Option<u32>
     ensures value { result ≡ number_up_to limit text.now }
     ensures bound { IfSome result (λ n. n ≤ limit) }

@@ -1,4 +1,4 @@
--- Texts, written out.
+-- Texts, written out. No proof cites these six: they show what the definitions of specs/Texts come to.
 use Rattle.std.proofs.Common.{◌≡◌, true, false, [], ◌∷◌, ◌++◌, Some, None, codes, refl}
 use Rattle.std.specs.Fmt.{digits}
 use Rattle.account.specs.declared.state.State.TheVariants.{Open, Settled}

@@ -20,6 +20,7 @@ impl<'a> Text for BookText<'a> {
     ghost text = { λ b. book_text b.decisions.now (b.forbids.now ++ (b.activates.now ++ b.prices.now)) };
 
     /// A line for each.
+    #[tactic(auto, using(crate::proofs::Lines::book_lines))]
     fn put<S: Sink>(&self, sink: &mut S) {
         put_all(self.decisions, sink);
         put_all(self.forbids, sink);

@@ -3,15 +3,17 @@ ghost use Rattle.std.specs.Prelude.{◌≡◌, [], ◌∷◌, ◌++◌};
 ghost use Rattle.rendering.specs.Texts.{decision_line, mark_text};
 
 use crate::Text;
-use crate::field::{LINE_END, put_number, put_word};
+use crate::field::{LINE_END, put_field};
 use rules::Decision;
 use writing::Sink;
 
-/// The word of a mark.
-fn mark(on: bool) -> &'static str
-    ensures { result.now ≡ mark_text on }
-{
-    if on { "on" } else { "off" }
+impl Text for bool {
+    ghost text = { mark_text };
+
+    /// The word of a mark.
+    fn put<S: Sink>(&self, sink: &mut S) {
+        sink.word(if *self { "on" } else { "off" });
+    }
 }
 
 impl Text for Decision {
@@ -21,8 +23,8 @@ impl Text for Decision {
     #[tactic(auto, unfolding(crate::specs::Texts::decision_line))]
     fn put<S: Sink>(&self, sink: &mut S) {
         sink.byte(b'D');
-        put_number(sink, u64::from(self.size));
-        put_word(sink, mark(self.on));
+        put_field(sink, &u64::from(self.size));
+        put_field(sink, &self.on);
         sink.byte(LINE_END);
     }
 }

@@ -3,19 +3,21 @@ ghost use Rattle.std.specs.Prelude.{◌≡◌};
 ghost use Rattle.rendering.specs.Texts.{fault_text, layer_text};
 
 use crate::Text;
-use crate::field::{LINE_END, put_number, put_word};
+use crate::field::{LINE_END, put_field};
 use rules::Layer;
 use statements::Fault;
 use writing::Sink;
 
-/// The word of a layer.
-fn layer_word(layer: Layer) -> &'static str
-    ensures { result.now ≡ layer_text layer }
-{
-    match layer {
-        Layer::Text => "text",
-        Layer::Rule => "rule",
-        Layer::Planner => "planner",
+impl Text for Layer {
+    ghost text = { layer_text };
+
+    /// The word of a layer.
+    fn put<S: Sink>(&self, sink: &mut S) {
+        sink.word(match *self {
+            Layer::Text => "text",
+            Layer::Rule => "rule",
+            Layer::Planner => "planner",
+        });
     }
 }
 
@@ -26,10 +28,10 @@ impl Text for Fault {
     #[tactic(auto, unfolding(crate::specs::Texts::fault_line))]
     fn put<S: Sink>(&self, sink: &mut S) {
         sink.word("refused");
-        put_number(sink, u64::from(self.refusal.number()));
-        put_word(sink, layer_word(self.refusal.layer()));
-        put_number(sink, self.line as u64);
-        put_number(sink, self.column as u64);
+        put_field(sink, &u64::from(self.refusal.number()));
+        put_field(sink, &self.refusal.layer());
+        put_field(sink, &self.line);
+        put_field(sink, &self.column);
         sink.byte(LINE_END);
     }
 }

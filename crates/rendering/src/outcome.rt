@@ -3,7 +3,8 @@ ghost use Rattle.std.specs.Prelude.{◌≡◌, true, false, [], ◌∷◌, ◌++
 ghost use Rattle.std.specs.List.{fold};
 ghost use Rattle.rendering.specs.Texts.{choice_line, choice_lines, cost_fields, ended, outcome_word, spaced};
 
-use crate::field::{LINE_END, put_number};
+use crate::Text;
+use crate::field::{LINE_END, put_field};
 use account::State;
 use measure::TierThenCents;
 use writing::Sink;
@@ -24,7 +25,7 @@ pub struct Outcome<'a> {
     best: Option<Best<'a>>,
 }
 
-/// The first word of an outcome, by whether a best is held.
+/// The first word of an outcome, by whether a best is held. Two values say it, so it is the text of neither.
 fn first_word(state: State, best: bool) -> &'static str
     ensures { result.now ≡ outcome_word state best }
 {
@@ -39,12 +40,13 @@ fn first_word(state: State, best: bool) -> &'static str
 fn put_choice<S: Sink>(sink: &mut S, decision: usize, value: u8)
     ensures { sink.new ≡ fold S.after sink.old (choice_line decision value ++ 10 ∷ []) }
 {
-    sink.number(decision as u64);
-    put_number(sink, u64::from(value));
+    decision.put(sink);
+    put_field(sink, &u64::from(value));
     sink.byte(LINE_END);
 }
 
 /// Puts a line for each chosen decision of a plan.
+#[tactic(auto, using(crate::proofs::Lines::chosen_more, crate::proofs::Lines::idle_more))]
 fn put_choices<S: Sink>(sink: &mut S, plan: &[u8])
     ensures { sink.new ≡ fold S.after sink.old (ended (choice_lines 0 plan.now)) }
 {
@@ -60,7 +62,7 @@ fn put_best<S: Sink>(sink: &mut S, state: State, cost: TierThenCents)
     ensures { sink.new ≡ fold S.after sink.old ((outcome_word state true ++ spaced (cost_fields cost)) ++ 10 ∷ []) }
 {
     sink.word(first_word(state, true));
-    put_number(sink, u64::from(cost.first.level));
-    put_number(sink, cost.second.sum);
+    put_field(sink, &u64::from(cost.first.level));
+    put_field(sink, &cost.second.sum);
     sink.byte(LINE_END);
 }

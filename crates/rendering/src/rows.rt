@@ -4,19 +4,21 @@ ghost use Rattle.std.specs.List.{fold};
 ghost use Rattle.rendering.specs.Texts.{head_fields, letter, pair_text, rule_line, spaced};
 
 use crate::Text;
-use crate::field::{LINE_END, put_number};
+use crate::field::{LINE_END, put_field};
 use crate::text::put_all;
 use rules::{Kind, Literal, Row};
 use writing::Sink;
 
-/// The first byte of a rule's line.
-fn first_byte(kind: Kind) -> u8
-    ensures { result ≡ letter kind }
-{
-    match kind {
-        Kind::Forbid => b'F',
-        Kind::Activate => b'A',
-        Kind::Price => b'P',
+impl Text for Kind {
+    ghost text = { λ k. letter k ∷ [] };
+
+    /// The first byte of a rule's line.
+    fn put<S: Sink>(&self, sink: &mut S) {
+        sink.byte(match *self {
+            Kind::Forbid => b'F',
+            Kind::Activate => b'A',
+            Kind::Price => b'P',
+        });
     }
 }
 
@@ -26,10 +28,10 @@ fn put_head<S: Sink>(sink: &mut S, row: &Row)
 {
     match row.kind {
         Kind::Forbid => {}
-        Kind::Activate => put_number(sink, u64::from(row.target)),
+        Kind::Activate => put_field(sink, &u64::from(row.target)),
         Kind::Price => {
-            put_number(sink, u64::from(row.price.tier));
-            put_number(sink, u64::from(row.price.cents));
+            put_field(sink, &u64::from(row.price.tier));
+            put_field(sink, &u64::from(row.price.cents));
         }
     }
 }
@@ -40,7 +42,7 @@ impl Text for Literal {
     /// A space and the pair.
     #[tactic(auto, unfolding(crate::specs::Texts::pair_text))]
     fn put<S: Sink>(&self, sink: &mut S) {
-        put_number(sink, u64::from(self.decision));
+        put_field(sink, &u64::from(self.decision));
         sink.byte(b'=');
         sink.number(u64::from(self.value));
     }
@@ -50,8 +52,9 @@ impl Text for Row {
     ghost text = { λ r. rule_line r ++ 10 ∷ [] };
 
     /// The rule's line.
+    #[tactic(auto, using(crate::proofs::Lines::row_line))]
     fn put<S: Sink>(&self, sink: &mut S) {
-        sink.byte(first_byte(self.kind));
+        self.kind.put(sink);
         put_head(sink, self);
         put_all(self.condition(), sink);
         sink.byte(LINE_END);

@@ -1,14 +1,12 @@
 -- The fields of a line counted one by one.
-use Rattle.std.proofs.Common.{◌≡◌, ℕ, ◌+◌, Bool, true, false, not, ◌||◌, List, [], ◌∷◌, length, Some, None, Option, refl, sym, ap, ◌∙◌}
-use Rattle.std.specs.Bool.{then_some}
-use Rattle.std.specs.Option.{option_or}
-use Rattle.std.proofs.lemmas.Bool.{cond-false, cond-true}
+use Rattle.std.proofs.Common.{◌≡◌, ℕ, ◌+◌, Bool, true, false, cond, not, ◌||◌, List, [], ◌∷◌, length, Some, refl, sym, ap, ap₂, ◌∙◌, option_map}
+use Rattle.std.specs.List.{enumerate_from, find}
 use Rattle.std.proofs.lemmas.Iterator.{YieldsList}
 use Rattle.std.proofs.lemmas.Iterator.Consumers.{YieldsList-from_shown}
-use Rattle.reading.specs.Cursors.{Taken, left}
+use Rattle.reading.specs.Cursors.{Taken, column, left}
 use Rattle.reading.specs.Pieces.{is_nil}
+use Rattle.reading.specs.declared.pieces.Piece.{Piece}
 use Rattle.reading.specs.declared.pieces.Pieces.{Pieces}
-use Rattle.rules.specs.Refusals.{or_else, when}
 use Rattle.statements.specs.Fields.{first_bad, takes_field}
 use Rattle.statements.specs.declared.line.LineKind.{LineKind}
 
@@ -16,25 +14,29 @@ use Rattle.statements.specs.declared.line.LineKind.{LineKind}
 pub pieces_yielded : (p : Pieces) → YieldsList Taken (λ x. x.bytes.now) p (left p)
 pieces_yielded = YieldsList-from_shown Taken (λ x. x.bytes.now) left (λ s t h. ap length h.0) (λ s x t h. h.first)
 
--- a field at fault, one that is none, and no field more
-module _ (k : LineKind) (n c : ℕ) where
-  pub bad_field : (f : List ℕ) (fs gs : List (List ℕ)) → fs ≡ f ∷ gs → (is_nil f || not (takes_field k n)) ≡ true → first_bad k n c fs ≡ Some c
-  unfolding first_bad
-  bad_field f fs gs e bad = ap (first_bad k n c) e ∙ cond-true (is_nil f || not (takes_field k n)) (Some c) _ bad
+-- fields with their columns, of fields that begin at column c
+abbrev located : ℕ → List (List ℕ) → List (ℕ × List ℕ)
+located c [] = []
+located c (f ∷ fs) = (c, f) ∷ located (c + length f + 1) fs
 
-  pub good_field : (f : List ℕ) (fs gs : List (List ℕ)) (m d : ℕ) → fs ≡ f ∷ gs → m ≡ n + 1 → d ≡ c + length f + 1 → (is_nil f || not (takes_field k n)) ≡ false → first_bad k n c fs ≡ first_bad k m d gs
-  unfolding first_bad
-  good_field f fs gs m d e at p good =
-      ap (first_bad k n c) e ∙ cond-false (is_nil f || not (takes_field k n)) (Some c) _ good
-      ∙ ap (λ (d : ℕ). first_bad k (n + 1) d gs) (sym p) ∙ ap (λ (m : ℕ). first_bad k m d gs) (sym at)
+-- a cursor gives them with their columns
+abbrev pub seen : Piece → ℕ × List ℕ
+seen x = (x.column, x.bytes.now)
 
-  pub no_field : (fs : List (List ℕ)) → fs ≡ [] → first_bad k n c fs ≡ None
-  unfolding first_bad
-  no_field fs e = ap (first_bad k n c) e
+pub pieces_located : (p : Pieces) → YieldsList Taken seen p (located (column p) (left p))
+pieces_located =
+    YieldsList-from_shown Taken seen (λ p. located (column p) (left p)) (λ s t h. ap (λ ps. length (located (column s) ps)) h.0)
+    (λ s x t h. ap (located (column s)) h.first ∙ ap₂ (λ (c n : ℕ). (c, x.bytes.now) ∷ located n (left t)) (sym h.place) (sym h.next))
 
--- the first answer, or the second where a test holds
-pub or_when : (o : Option ℕ) (t : Bool) (n : ℕ) → option_or o (then_some t n) ≡ or_else o (when t n)
-or_when None true n = refl
-or_when None false n = refl
-or_when (Some m) true n = refl
-or_when (Some m) false n = refl
+-- whether a field at a place is empty or too many
+abbrev pub bad : LineKind → ℕ × (ℕ × List ℕ) → Bool
+bad k p = is_nil p.1.1 || not (takes_field k p.0)
+
+-- the column of the first such field
+pub bad_found : (k : LineKind) (n c : ℕ) (fs : List (List ℕ)) → option_map (λ p. p.1.0) (find (bad k) (enumerate_from n (located c fs))) ≡ first_bad k n c fs
+unfolding first_bad
+bad_found k n c [] = refl
+bad_found k n c (f ∷ fs) =
+    elim (is_nil f || not (takes_field k n)) as
+    (λ t. option_map (λ (p : ℕ × (ℕ × List ℕ)). p.1.0) (cond t (Some (n, (c, f))) (find (bad k) (enumerate_from (n + 1) (located (c + length f + 1) fs)))) ≡ cond t (Some c) (first_bad k (n + 1) (c + length f + 1) fs))
+    [ true ↦ refl | false ↦ bad_found k (n + 1) (c + length f + 1) fs ]

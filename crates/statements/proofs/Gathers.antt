@@ -1,19 +1,14 @@
 -- Pairs gathered one by one, five at most.
-use Rattle.std.proofs.Common.{◌≡◌, ℕ, zero, suc, ◌+◌, ◌<◌, ◌≤◌, List, [], ◌∷◌, ◌++◌, length, take, set, Ok, Err, Result, sym, refl, ap, ◌∙◌, arith}
-use Rattle.std.proofs.lemmas.List.{append_assoc, append-nil, length_push, length-take-le, take_all, take_more_set}
+use Rattle.std.proofs.Common.{◌≡◌, ℕ, zero, suc, ◌+◌, ◌≤◌, List, [], ◌∷◌, ◌++◌, length, take, Ok, Err, Result, sym, refl, ap, ◌∙◌}
+use Rattle.std.proofs.lemmas.List.{append_assoc, append-nil, take_all}
 use Rattle.rules.specs.declared.literal.Literal.{Literal}
 use Rattle.statements.specs.Forms.{pair_of}
 use Rattle.statements.specs.Statements.{formed, read_pairs, then}
 use Rattle.statements.specs.Views.{on_ok}
 use Rattle.statements.specs.declared.fault.Fault.{Fault}
 
--- one more pair, with room for it
-pub push_few : {X : Type 0} (xs : List X) (n : ℕ) (x : X) → n < length xs → n < 5 → take (n + 1) (set xs n x) ≡ take 5 (take n xs ++ x ∷ [])
-push_few xs n x h few =
-    take_more_set xs n x h ∙ sym (take_all 5 (take n xs ++ x ∷ []) (omega (arith, length_push (take n xs) x, length-take-le n xs (omega arith))))
-
 -- what is cut off does not matter to a later cut
-pub take_cut : {X : Type 0} (n : ℕ) (xs ys : List X) → take n (take n xs ++ ys) ≡ take n (xs ++ ys)
+take_cut : {X : Type 0} (n : ℕ) (xs ys : List X) → take n (take n xs ++ ys) ≡ take n (xs ++ ys)
 take_cut zero xs ys = refl
 take_cut (suc n) [] ys = refl
 take_cut (suc n) (x ∷ xs) ys = ap (λ l. x ∷ l) (take_cut n xs ys)

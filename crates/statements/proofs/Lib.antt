@@ -2,5 +2,3 @@ pub mod Gathers
 pub mod Shapes
 pub mod Counts
 pub mod Numbering
-pub mod FieldReads
-pub mod LineReads

@@ -1,6 +1,6 @@
 -- The lines of a text, one by one.
-use Rattle.std.proofs.Common.{◌≡◌, ℕ, ◌+◌, true, false, not, ◌&&◌, List, [], ◌∷◌, sym, refl, ap, ◌∙◌}
-use Rattle.std.proofs.lemmas.Bool.{and_parts, eqb-false, cond-false, cond-true}
+use Rattle.std.proofs.Common.{◌≡◌, ℕ, ◌+◌, true, false, not, ◌&&◌, List, [], ◌∷◌, refl, ap, ◌∙◌}
+use Rattle.std.proofs.lemmas.Bool.{and_parts, cond-false, cond-true}
 use Rattle.reading.specs.Pieces.{is_nil}
 use Rattle.statements.specs.Lines.{numbered}
 
@@ -15,7 +15,7 @@ module _ (n : ℕ) where
 
   pub past_end : (ps : List (List ℕ)) (p : List ℕ) → (is_nil p && is_nil ps) ≡ true → numbered n ps ≡ []
   past_end [] p t = no_line [] refl
-  past_end (q ∷ qs) p t = let z : false ≡ true = (and_parts (is_nil p) false t).1 in absurd (eqb-false 0 0 (sym z) refl)
+  past_end (q ∷ qs) p t = let z : false ≡ true = (and_parts (is_nil p) false t).1 in cc
 
   pub one_line : (qs ps : List (List ℕ)) (p : List ℕ) → qs ≡ p ∷ ps → (is_nil p && is_nil ps) ≡ false → numbered n qs ≡ record { bytes = p; number = n; ended = not (is_nil ps) } ∷ numbered (n + 1) ps
   unfolding numbered

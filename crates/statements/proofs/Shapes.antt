@@ -1,19 +1,12 @@
 -- The forms of fields.
-use Rattle.std.proofs.Common.{◌≡◌, ℕ, ◌+◌, ◌<◌, ◌≤◌, List, [], length, take, drop, Some, None, Err, Option, sym, refl, ap, ◌∙◌, ⊎_elim, arith}
+use Rattle.std.proofs.Common.{◌≡◌, ℕ, ◌+◌, ◌<◌, ◌≤◌, List, length, take, drop, Some, None, Option, refl, ap, ◌∙◌, ⊎_elim, arith}
 use Rattle.std.proofs.lemmas.List.{length-drop}
 use Rattle.std.proofs.lemmas.Bool.{cases_lt, cond-false, cond-true, le-ltb, lt-ltb}
 use Rattle.reading.specs.Numbers.{number_up_to}
 use Rattle.reading.specs.Pieces.{before, halves}
 use Rattle.reading.proofs.Numerals.{none_if_empty}
 use Rattle.rules.specs.declared.literal.Literal.{Literal}
-use Rattle.rules.specs.declared.refusal.Refusal.TheVariants.{MalformedField}
 use Rattle.statements.specs.Forms.{both, pair_of}
-use Rattle.statements.specs.Statements.{fault, formed, front}
-
--- nothing is no number
-pub formed_missing : (n c limit : ℕ) (fs : List (List ℕ)) → fs ≡ [] → Err (fault MalformedField n c) ≡ formed n c (number_up_to limit (front fs))
-formed_missing n c limit fs e =
-    ap (formed n c) (none_if_empty limit [] (omega arith)) ∙ ap (λ (gs : List (List ℕ)). formed n c (number_up_to limit (front gs))) (sym e)
 
 -- the pair of two halves, if there are two
 abbrev pub paired : Option (List ℕ × List ℕ) → Option Literal

@@ -14,12 +14,10 @@ impl KnownLine<'_> {
     fn rejected(&self) -> Option<usize>
         ensures { result ≡ first_bad self.now.kind 0 3 (fields_of self.now.line.bytes.now) }
     {
-        for (place, field) in self.fields().enumerate() {
-            if self.kind.rejects(place, field.bytes) {
-                return Some(field.column);
-            }
-        }
-        None
+        self.fields()
+            .enumerate()
+            .find(|(place, field)| self.kind.rejects(*place, field.bytes))
+            .map(|(_, field)| field.column)
     }
 
     /// Whether the line lacks a field or its end.

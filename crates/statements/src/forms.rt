@@ -7,7 +7,7 @@ ghost use Rattle.statements.specs.Forms.{mark_of, pair_of};
 use reading::{number, split_once};
 use rules::Literal;
 
-/// Whether a field is this mark word.
+/// Whether a field is this mark word. A match on the words, since that form is asked for.
 fn is_mark(word: &str, field: &[u8]) -> bool
     ensures { result ≡ ((bytes_eq word.now (codes "on") || bytes_eq word.now (codes "off")) && bytes_eq word.now field.now) }
 {
@@ -39,6 +39,7 @@ pub fn byte_of(field: &[u8]) -> Option<u8>
 }
 
 /// The pair that a field is, cut at its first equals sign.
+#[tactic(auto, using(crate::proofs::Shapes::paired_is), unfolding(crate::specs::Forms::pair_of))]
 pub fn pair_of(field: &[u8]) -> Option<Literal>
     ensures { result ≡ pair_of field.now }
 {

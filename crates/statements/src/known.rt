@@ -1,11 +1,13 @@
 //! Lines of a known kind.
-ghost use Rattle.std.specs.Prelude.{◌≡◌, ◌^◌, ◌<◌, ◌≤◌, length, MatchOption, Some, None};
+ghost use Rattle.std.specs.Prelude.{◌≡◌, ◌^◌, ◌<◌, ◌≤◌, length, MatchResult, Some, None};
 ghost use Rattle.reading.specs.Cursors.{column, left};
+ghost use Rattle.rules.specs.declared.refusal.Refusal.TheVariants.{UnknownLine};
 ghost use Rattle.statements.specs.Fields.{fields_of};
 ghost use Rattle.statements.specs.Lines.{kind_of};
 
 use crate::{Line, LineKind};
 use reading::Pieces;
+use rules::Refusal;
 
 /// A line whose kind is known: it begins with the kind's letter and a space.
 #[derive(Clone, Copy)]
@@ -17,14 +19,14 @@ pub struct KnownLine<'a> {
 
 impl<'a> KnownLine<'a> {
     /// A line with its kind, by its first byte, if a space follows.
-    pub fn of(line: &Line<'a>) -> Option<KnownLine<'a>>
-        ensures { MatchOption result (kind_of line.now.bytes.now ≡ None) (λ known. (kind_of line.now.bytes.now ≡ Some known.kind) × (known.line ≡ line.now)) }
+    pub fn of(line: &Line<'a>) -> Result<KnownLine<'a>, Refusal>
+        ensures { MatchResult result (λ known. (kind_of line.now.bytes.now ≡ Some known.kind) × (known.line ≡ line.now)) (λ e. (kind_of line.now.bytes.now ≡ None) × (e ≡ UnknownLine)) }
     {
         let [letter, b' ', ..] = line.bytes else {
-            return None;
+            return Err(Refusal::UnknownLine);
         };
-        let kind = LineKind::try_from(char::from(*letter)).ok()?;
-        Some(KnownLine { kind, line: *line })
+        let kind = LineKind::try_from(char::from(*letter))?;
+        Ok(KnownLine { kind, line: *line })
     }
 
     /// The fields of the line: what stands behind its letter and space, cut at each space.

@@ -9,7 +9,8 @@ pub struct Line<'a> {
     pub ended: bool,
 }
 
-/// The kinds of line, each with the byte that a line of the kind begins with.
+/// The kinds of line. An enum that is an answer shows the value of each case, here the byte that such a line begins
+/// with.
 #[derive(Clone, Copy, Debug, PartialEq, Eq)]
 pub enum LineKind {
     Decision = 68,

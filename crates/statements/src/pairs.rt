@@ -1,5 +1,5 @@
 //! The pairs of a line.
-ghost use Rattle.std.specs.Prelude.{◌≡◌, ◌≤◌, length};
+ghost use Rattle.std.specs.Prelude.{◌≤◌};
 
 use rules::Literal;
 
@@ -12,5 +12,4 @@ pub struct Pairs {
     list: [Literal; 5],
     count: usize,
     ghost few: { count ≤ 5 },
-    ghost full: { length list ≡ 5 },
 }

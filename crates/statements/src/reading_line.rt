@@ -11,11 +11,12 @@ use measure::Price;
 use rules::{Decision, Kind, Refusal};
 
 /// Reads a decision: its size, and its mark.
+#[tactic(auto, unfolding(crate::specs::Statements::read_decision))]
 fn read_decision(mut fields: Fields) -> Result<Statement, Fault>
     ensures { on_ok stated_of result ≡ read_decision fields.entry.line (place fields.entry) (remaining fields.entry) }
 {
-    let size = fields.byte()?;
-    let on = fields.mark()?;
+    let size = fields.field()?;
+    let on = fields.field()?;
     Ok(Statement::Decision(Decision { size, on }))
 }
 
@@ -26,7 +27,7 @@ fn read_rule(fields: Fields, kind: Kind, target: u8, price: Price) -> Result<Sta
     let line = fields.line();
     let pairs = fields.pairs()?;
     let count = pairs.as_slice().len();
-    if count < 1 || count > 4 {
+    if !(1..=4).contains(&count) {
         return Err(Fault::at_line(Refusal::PairCount, line));
     }
     Ok(Statement::Rule(Parts {
@@ -38,6 +39,7 @@ fn read_rule(fields: Fields, kind: Kind, target: u8, price: Price) -> Result<Sta
 }
 
 /// Reads a forbid rule: its pairs.
+#[tactic(auto, unfolding(crate::specs::Statements::read_forbid))]
 fn read_forbid(fields: Fields) -> Result<Statement, Fault>
     ensures { on_ok stated_of result ≡ read_forbid fields.entry.line (place fields.entry) (remaining fields.entry) }
 {
@@ -45,19 +47,21 @@ fn read_forbid(fields: Fields) -> Result<Statement, Fault>
 }
 
 /// Reads an activate rule: its target, then its pairs.
+#[tactic(auto, unfolding(crate::specs::Statements::read_activate))]
 fn read_activate(mut fields: Fields) -> Result<Statement, Fault>
     ensures { on_ok stated_of result ≡ read_activate fields.entry.line (place fields.entry) (remaining fields.entry) }
 {
-    let target = fields.byte()?;
+    let target = fields.field()?;
     read_rule(fields, Kind::Activate, target, Price::default())
 }
 
 /// Reads a price rule: tier and cents, then its pairs.
+#[tactic(auto, unfolding(crate::specs::Statements::read_price))]
 fn read_price(mut fields: Fields) -> Result<Statement, Fault>
     ensures { on_ok stated_of result ≡ read_price fields.entry.line (place fields.entry) (remaining fields.entry) }
 {
-    let tier = fields.byte()?;
-    let cents = fields.number()?;
+    let tier = fields.field()?;
+    let cents = fields.field()?;
     read_rule(fields, Kind::Price, 0, Price { tier, cents })
 }
 
@@ -77,10 +81,15 @@ fn read_fields(known: &KnownLine) -> Result<Statement, Fault>
 /// What a line states. Refuses, in this order: a line of no kind, a decision after a rule (`began` says if one came
 /// before), fields that are empty, too many or missing or a missing end, a field not of its form, pairs that are
 /// missing or more than four.
+#[tactic(auto, unfolding(crate::specs::Statements::read_line))]
 pub fn read_line(line: &Line, began: bool) -> Result<Statement, Fault>
     ensures { on_ok stated_of result ≡ read_line began (line_of line.now) }
 {
-    let known = KnownLine::of(line).ok_or(Fault::at_line(Refusal::UnknownLine, line.number))?;
+    // A match: with `map_err` the proof of the refusal did not close, since nothing was known of what the closure gave.
+    let known = match KnownLine::of(line) {
+        Ok(known) => known,
+        Err(refusal) => return Err(Fault::at_line(refusal, line.number)),
+    };
     if known.kind.is_late(began) {
         return Err(Fault::at_line(Refusal::DecisionAfterRule, line.number));
     }

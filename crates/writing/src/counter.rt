@@ -12,7 +12,7 @@ pub struct Counter {
 impl Sink for Counter {
     ghost after = { counted };
 
-    fn byte(&mut self, byte: u8) {
+    fn byte(&mut self, _byte: u8) {
         self.count = self.count.saturating_add(1);
     }
 }

@@ -19,7 +19,8 @@ pub trait Sink {
         }
     }
 
-    /// Takes the decimal digits of a number.
+    /// Takes the decimal digits of a number. A digit is cast, since `try_from` would ask for a branch that is never
+    /// taken.
     #[tactic(auto, using(std::proofs::lemmas::Fmt::decimal_digit, std::proofs::lemmas::Fmt::decimal_step, std::proofs::lemmas::List::Sums::fold_push))]
     final fn number(&mut self, number: u64)
         ensures { self.new ≡ fold after self.old (decimal number) }

@@ -24,6 +24,7 @@ pub fn split_once(text: &[u8], at: u8) -> Option<(&[u8], &[u8])>
 
 impl<'a> Pieces<'a> {
     /// The pieces of a text from a place on, cut at each byte `at`.
+    #[tactic(auto, using(crate::proofs::Cuts::few_left))]
     pub fn starting(text: &'a [u8], at: u8, place: usize) -> Pieces<'a>
         requires { place ≤ length text.now + 1 }
         ensures left { left result ≡ left_at at text.now place }
@@ -41,6 +42,7 @@ impl<'a> Pieces<'a> {
     }
 
     /// Whether no piece is to come.
+    #[tactic(auto, using(crate::proofs::Cuts::passed))]
     pub fn is_empty(&self) -> bool
         ensures { result ≡ is_nil (left self.now) }
     {

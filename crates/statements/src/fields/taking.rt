@@ -9,10 +9,10 @@ ghost use Rattle.statements.specs.Views.{Advanced, on_ok, pairs_of, place, remai
 
 use crate::fields::Fields;
 use crate::known::KnownLine;
-use crate::token::{Placed, Token};
+use crate::token::{Form, Placed, Token};
 use crate::{Fault, Pairs};
 use reading::Piece;
-use rules::Refusal;
+use rules::{Literal, Refusal};
 
 impl<'a> Fields<'a> {
     /// The fields of a line.
@@ -58,44 +58,24 @@ impl<'a> Fields<'a> {
         })
     }
 
-    /// The next field as a number up to 255.
-    pub fn byte(&mut self) -> Result<u8, Fault>
-        ensures value { result ≡ formed self.old.line (place self.old) (number_up_to 255 (front (remaining self.old))) }
+    /// The next field, in the form that its place asks for.
+    pub fn field<T: Form>(&mut self) -> Result<T, Fault>
+        ensures value { result ≡ formed self.old.line (place self.old) (T.form (front (remaining self.old))) }
         ensures after { Advanced self.old self.new }
     {
         let field = self.take()?;
-        let placed = self.placed(Token::Number(field.bytes), field.column);
-        placed.formed(placed.token.byte())
-    }
-
-    /// The next field as a number.
-    pub fn number(&mut self) -> Result<u32, Fault>
-        ensures value { result ≡ formed self.old.line (place self.old) (number_up_to 4294967295 (front (remaining self.old))) }
-        ensures after { Advanced self.old self.new }
-    {
-        let field = self.take()?;
-        let placed = self.placed(Token::Number(field.bytes), field.column);
-        placed.formed(placed.token.number())
-    }
-
-    /// The next field as a mark word.
-    pub fn mark(&mut self) -> Result<bool, Fault>
-        ensures value { result ≡ formed self.old.line (place self.old) (mark_of (front (remaining self.old))) }
-        ensures after { Advanced self.old self.new }
-    {
-        let field = self.take()?;
-        let placed = self.placed(Token::Mark(field.bytes), field.column);
-        placed.formed(placed.token.mark())
+        self.placed(T::token(field.bytes), field.column).formed()
     }
 
     /// The fields to come, as pairs.
+    #[tactic(auto, using(crate::proofs::Gathers::one_pair))]
     pub fn pairs(self) -> Result<Pairs, Fault>
         ensures { on_ok pairs_of result ≡ on_ok (take 5) (read_pairs self.entry.line (place self.entry) (remaining self.entry)) }
     {
         let mut pairs = Pairs::new();
         for field in self.pieces {
-            let placed = self.placed(Token::Pair(field.bytes), field.column);
-            let pair = placed.formed(placed.token.pair())?;
+            let placed = self.placed(Literal::token(field.bytes), field.column);
+            let pair = placed.formed()?;
             pairs.push(pair);
         }
         Ok(pairs)

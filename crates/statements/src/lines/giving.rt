@@ -35,7 +35,9 @@ impl<'a> Iterator for Lines<'a> {
 
     ghost remaining = { item_count left_lines };
 
-    /// The next line, if there is one, as the part of the text that it occupies. What stands behind the last byte 10 is a line only if it is not empty.
+    /// The next line, if there is one, as the part of the text that it occupies. What stands behind the last byte 10 is
+    /// a line only if it is not empty.
+    #[tactic(auto, using(crate::proofs::Numbering::no_line, crate::proofs::Numbering::end_of_lines, crate::proofs::Numbering::past_end, crate::proofs::Numbering::one_line))]
     fn next(&mut self) -> Option<Line<'a>> {
         let piece = self.pieces.next()?;
         if is_end(piece.bytes, &self.pieces) {

@@ -1,14 +1,7 @@
 use Rattle.std.proofs.Common.{rules, ◌≡◌, sym, ap, ◌∙◌}
-use Rattle.reading.proofs.Numerals.{none_if_no_number, is_text, capped, capped_is}
+use Rattle.reading.proofs.Numerals.{capped, capped_is}
 use Rattle.std.specs.Str.Parse.{ParsesUnsigned}
 use Rattle.reading.proofs.numbers.number.Goals as goal
-
-pub returns-then-not-is_number-clause-value : goal.returns-then-not-is_number-clause-value
-returns-then-not-is_number-clause-value c = none_if_no_number c.args.limit c.args.text.now (sym c.if-not-is_number.ensures)
-
-pub returns-in_err-ok-clause-value : goal.returns-in_err-ok-clause-value
-returns-in_err-ok-clause-value c =
-    let u = is_text c.args.text.now (sym c.if-not-is_number.ensures) in search rules
 
 pub returns-in_err-number-clause-value : goal.returns-in_err-number-clause-value
 returns-in_err-number-clause-value c =

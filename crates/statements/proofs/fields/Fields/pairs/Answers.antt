@@ -1,15 +1,12 @@
-use Rattle.std.proofs.Common.{◌≡◌, ℕ, ◌≤◌, List, length, Ok, Err, sym, refl, ap, ◌∙◌, arith, rules}
-use Rattle.std.proofs.lemmas.List.{length-take-le}
+use Rattle.std.proofs.Common.{◌≡◌, ℕ, ◌≤◌, List, length, Err, sym, ap, ◌∙◌, arith, rules}
+use Rattle.std.proofs.lemmas.List.{length-take}
 use Rattle.std.proofs.lemmas.Result.{err_from_is_err_and}
 use Rattle.reading.specs.Cursors.{column, left}
 use Rattle.statements.specs.Forms.{pair_of}
 use Rattle.statements.specs.Statements.{formed}
 use Rattle.statements.specs.Views.{on_ok, pairs_of}
-use Rattle.statements.proofs.Gathers.{bad_pair, no_pair, one_pair}
+use Rattle.statements.proofs.Gathers.{bad_pair, no_pair}
 use Rattle.statements.proofs.fields.Fields.pairs.Goals as goal
-
-pub loop-field-init : goal.loop-field-init
-loop-field-init c = let e = c.into_iter-field-iterator.ensures.into_iter_gives in let n = c.new-pairs.ensures in rw (e, n) refl
 
 pub returns-in_err-pair : goal.returns-in_err-pair
 returns-in_err-pair c =
@@ -21,16 +18,7 @@ returns-in_err-pair c =
     let bad : formed n (column it) (pair_of f) ≡ Err c.in_err-pair.field-0.0 = search rules in
     ap (on_ok pairs_of) p.1 ∙ ap Err p.2 ∙ sym (c.loop-field.invariant ∙ bad_pair n (column it) (pairs_of c.loop-field.pairs) f _ (left c.next.new.self) c.in_err-pair.field-0.0 took.first bad)
 
-pub loop-field-preserved : goal.loop-field-preserved
-loop-field-preserved c =
-    let took = c.in-Some.ensures.steps in
-    let n : ℕ = c.args.self.line in
-    let it = c.loop-field.field-iterator in
-    let good : formed n (column it) (pair_of c.in-Some.field.bytes.now) ≡ Ok c.in_ok-pair.pair = search rules in
-    c.loop-field.invariant
-    ∙ one_pair n (column it) (pairs_of c.loop-field.pairs) c.in-Some.field.bytes.now _ (left c.next.new.self) c.in_ok-pair.pair _ _ took.first good took.next c.push.ensures
-
 pub returns : goal.returns
 returns c =
-    let few : length (pairs_of c.loop-field.pairs) ≤ 5 = omega (arith, length-take-le c.loop-field.pairs.count c.loop-field.pairs.list (omega (arith, c.loop-field.pairs.few, c.loop-field.pairs.full))) in
+    let few : length (pairs_of c.loop-field.pairs) ≤ 5 = omega (arith, length-take c.loop-field.pairs.count c.loop-field.pairs.list, c.loop-field.pairs.few) in
     sym (c.loop-field.invariant ∙ no_pair _ _ (pairs_of c.loop-field.pairs) _ c.in-None.ensures.steps.0 few)

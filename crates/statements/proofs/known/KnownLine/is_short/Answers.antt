@@ -9,9 +9,3 @@ returns-then-count-heads c =
     let n : c.count.result ≡ length (fields_of c.args.self.now.line.bytes.now) =
     count_from_yields_List c.fields.result c.count.result c.count.ensures.ran (pieces_yielded c.fields.result) ∙ ap length c.fields.ensures.fields in
     search rules
-
-pub returns-else-count-heads : goal.returns-else-count-heads
-returns-else-count-heads c =
-    let n : c.count.result ≡ length (fields_of c.args.self.now.line.bytes.now) =
-    count_from_yields_List c.fields.result c.count.result c.count.ensures.ran (pieces_yielded c.fields.result) ∙ ap length c.fields.ensures.fields in
-    search rules
