@@ -13,7 +13,10 @@ use Rattle.statements.specs.Views.{on_ok}
 use Rattle.statements.specs.declared.fault.Fault.{Fault}
 use Rattle.book.specs.Loads.{carried, is_rule, left_by, load_lines, loaded, obeyed, statement_refusal, verdict}
 use Rattle.book.specs.Steps.{line_step}
-use Rattle.book.proofs.Carries.{no_first}
+
+no_ground : (o : Option Refusal) (u : Unit {0}) → Ok u ≡ as_result o → o ≡ None
+no_ground (Some e) u h = cc
+no_ground None u h = refl
 
 module _ {C : Type 0} (m : Meaning C) (began : Bool) (a : Account C) (l : TextLine) where
   -- the rest of a line's step, once it is read
@@ -38,7 +41,7 @@ module _ {C : Type 0} (m : Meaning C) (began : Bool) (a : Account C) (l : TextLi
 
   pub line_done : (s : Stated) (u : Unit {0}) (t : Bool) (b : Account C) → Ok s ≡ read_line began l → Ok u ≡ as_result (statement_refusal a s) → b ≡ unless_refused (statement_refusal a s) a (carried m a s) → t ≡ (began || is_rule s) → Ok (t, b) ≡ line_step m began a l
   line_done s u t b h k e f =
-      let none = no_first (statement_refusal a s) u k in
+      let none = no_ground (statement_refusal a s) u k in
       let is : b ≡ carried m a s = e ∙ ap (λ (o : Option Refusal). unless_refused o a (carried m a s)) none in
       sym
       (line_read s (sym h)

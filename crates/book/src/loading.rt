@@ -15,7 +15,7 @@ use rules::Refusal;
 use statements::{Fault, Line, Lines, read_line};
 
 /// The most bytes that a book may have.
-const MOST_BYTES: usize = 65_536;
+pub const MOST_BYTES: usize = 65_536;
 
 /// Reads a line and carries out what it states. `began` is whether a rule line came before; the answer, whether one has
 /// come by now.
@@ -45,7 +45,7 @@ fn load_lines<M: Measure>(planner: &mut Planner<M>, text: &[u8]) -> Result<(), F
 fn clear<M: Measure>(planner: &mut Planner<M>)
     ensures { account_of planner.new ≡ fresh [] }
 {
-    let _ = planner.open(&[]);
+    planner.open(&[]).unwrap();
 }
 
 /// Makes a planner one over the decisions that a text states, with the rules that it states, as open and then an add for

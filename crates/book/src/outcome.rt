@@ -7,10 +7,7 @@ ghost use Rattle.book.specs.Outcomes.{account_text};
 use measure::TierThenCents;
 use planner::Planner;
 use rendering::{Outcome, Text};
-use rules::Refusal;
-
-/// The most decisions that a planner has.
-const MOST_DECISIONS: usize = 64;
+use rules::{MOST_DECISIONS, Refusal};
 
 /// Writes the text of what a planner has come to: its state, and if a best is held its tier and cents, and the number
 /// and value of each active decision, a line each. Answers the byte count; later bytes stay. Refuses a buffer that is too
