@@ -5,7 +5,7 @@ use planner::Planner;
 use rules::{Decision, Kind, Refusal, Rule};
 use showing::{Trouble, done};
 use std::io;
-use worked::{pair, rule};
+use worked::pair;
 
 /// A decision of 2 values that is on, and one of 1 that is off.
 const DECISIONS: [Decision; 2] = [
@@ -21,7 +21,7 @@ const DEAR: Price = Price {
 
 /// The rule of a kind with one pair; its target, if it has one, is decision 1.
 fn dear(kind: Kind, decision: u8, value: u8) -> Result<Rule, Refusal> {
-    rule(kind, &[pair(decision, value)], 1, DEAR)
+    Rule::of(kind, &[pair(decision, value)], 1, DEAR)
 }
 
 /// Adds a rule 257 times, and prints the last two answers.

@@ -8,6 +8,7 @@ pub enum Fault {
     Refused(Refusal),
 }
 
+// By hand: `thiserror` would want a text for each variant, and the C interface has none.
 impl From<Refusal> for Fault {
     fn from(refusal: Refusal) -> Fault {
         Fault::Refused(refusal)
