@@ -1,7 +1,6 @@
 //! Openings and rules at the edges of what is accepted.
-use calling::open;
+use calling::Calls;
 use measure::{Cents, Price};
-use planner::Planner;
 use rules::{Decision, Kind, Literal, Rule};
 use showing::done;
 use std::io;
@@ -16,16 +15,16 @@ fn sized(size: u8) -> Decision {
 }
 
 /// Openings with many decisions, and with sizes small and large.
-pub fn openings(rt: &impl Print, planner: &mut Planner<Cents>) -> io::Result<()> {
-    open(rt, planner, "with 0 decisions", &[])?;
-    open(rt, planner, "with 64 decisions", &[ONE; 64])?;
-    open(rt, planner, "with 65 decisions", &[ONE; 65])?;
-    open(rt, planner, "with size 0", &[sized(0)])?;
-    open(rt, planner, "with size 1", &[sized(1)])?;
-    open(rt, planner, "with size 16", &[sized(16)])?;
-    open(rt, planner, "with size 17", &[sized(17)])?;
-    open(rt, planner, "with sizes 16 and 17", &[sized(16), sized(17)])?;
-    open(rt, planner, "with 65 of size 17", &[sized(17); 65])
+pub fn openings(calls: &mut Calls<'_, impl Print, Cents>) -> io::Result<()> {
+    calls.open("with 0 decisions", &[])?;
+    calls.open("with 64 decisions", &[ONE; 64])?;
+    calls.open("with 65 decisions", &[ONE; 65])?;
+    calls.open("with size 0", &[sized(0)])?;
+    calls.open("with size 1", &[sized(1)])?;
+    calls.open("with size 16", &[sized(16)])?;
+    calls.open("with size 17", &[sized(17)])?;
+    calls.open("with sizes 16 and 17", &[sized(16), sized(17)])?;
+    calls.open("with 65 of size 17", &[sized(17); 65])
 }
 
 /// Composes a rule, by `compose` and not by `Rule::of`: the line tells what `compose` answers.
