@@ -48,10 +48,11 @@ fn clear<M: Measure>(planner: &mut Planner<M>)
     planner.open(&[]).unwrap();
 }
 
-/// Makes a planner one over the decisions that a text states, with the rules that it states, as open and then an add for
-/// each rule line would. Refuses with the fault of the text, by number, line and column; the planner is then one over no
-/// decisions. A text that is accepted is the text of its decisions and rules and of nothing else, and every text of
-/// decisions and of rules that new and compose make is loaded as open and the adds would have it, their refusals too.
+/// Makes a planner one over the decisions that a text states, with the rules that it states, as open and then an add
+/// for each rule line would. Refuses with the fault of the text, by number, line and column; the planner is then one
+/// over no decisions. A text that is accepted is the text of its decisions and rules and of nothing else, and every
+/// text of decisions and of rules that new and compose make is loaded as open and the adds would have it, their
+/// refusals too.
 pub fn load<M: Measure>(planner: &mut Planner<M>, text: &[u8]) -> Result<(), Fault>
     ensures value { result ≡ verdict (loaded M.meaning text.now) }
     ensures after { account_of planner.new ≡ left_by (loaded M.meaning text.now) }

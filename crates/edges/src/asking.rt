@@ -37,7 +37,7 @@ pub fn buffers(calls: &Calls<'_, impl Print, Cents>) -> io::Result<()> {
     best(calls, &mut [9; 4])
 }
 
-/// Asks for the exclusion of a value.
+/// Asks for the exclusion of a value, and prints the answer.
 fn exclusion(calls: &Calls<'_, impl Print, Cents>, d: u8, value: u8) -> io::Result<()> {
     match calls.planner.exclusion(d, value) {
         Ok(Some((reason, resting))) => {
@@ -49,7 +49,7 @@ fn exclusion(calls: &Calls<'_, impl Print, Cents>, d: u8, value: u8) -> io::Resu
     }
 }
 
-/// Asks how many values of a decision are not excluded.
+/// Asks how many values of a decision are not excluded, and prints the answer.
 fn unexcluded(calls: &Calls<'_, impl Print, Cents>, d: u8) -> io::Result<()> {
     println!(calls.rt;
         "unexcluded of {d}: {}",
@@ -72,7 +72,7 @@ pub fn questions(calls: &Calls<'_, impl Print, Cents>) -> io::Result<()> {
     unexcluded(calls, 2)
 }
 
-/// Sets the rank of a decision.
+/// Sets the rank of a decision, and prints the answer.
 fn rank(calls: &mut Calls<'_, impl Print, Cents>, decision: u8, rank: u8) -> io::Result<()> {
     let answer = done(calls.planner.rank(decision, rank));
     println!(calls.rt; "rank {decision} {rank}: {answer}")

@@ -9,7 +9,7 @@ use worked::pair;
 /// A decision of one value.
 const ONE: Decision = Decision { size: 1, on: true };
 
-/// A decision of a size.
+/// A decision of this size that is on.
 fn sized(size: u8) -> Decision {
     Decision { size, on: true }
 }

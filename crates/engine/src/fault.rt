@@ -16,7 +16,7 @@ impl From<Refusal> for Fault {
 }
 
 impl Fault {
-    /// The number that stands for the fault. It stays a number, 255 beside those of refusals: the C interface answers it.
+    /// The number that stands for the fault, 255 beside those of refusals: the C interface answers a number.
     pub fn number(self) -> u8 {
         match self {
             Fault::Malformed => 255,

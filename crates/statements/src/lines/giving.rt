@@ -35,7 +35,8 @@ impl<'a> Iterator for Lines<'a> {
 
     ghost remaining = { item_count left_lines };
 
-    /// The next line, if there is one, as the part of the text that it occupies. What stands behind the last byte 10 is a line only if it is not empty.
+    /// The next line, if there is one, as the part of the text that it occupies. What stands behind the last byte 10 is
+    /// a line only if it is not empty.
     fn next(&mut self) -> Option<Line<'a>> {
         let piece = self.pieces.next()?;
         if is_end(piece.bytes, &self.pieces) {
