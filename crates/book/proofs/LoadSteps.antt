@@ -76,23 +76,43 @@ module _ {C : Type 0} (m : Meaning C) where
   unfolding load_lines
   lines_end began a ls e = ap (load_lines m began a) e
 
-  pub too_large : (text : List ℕ) → 65536 < length text → loaded m text ≡ Err (fault BookTooLarge 1 1)
+  module _ (text : List ℕ) (large : 65536 < length text) where
+    too_large : loaded m text ≡ Err (fault BookTooLarge 1 1)
+    unfolding loaded
+    too_large = cond-true (ltb 65536 (length text)) _ _ (lt-ltb 65536 (length text) large)
+
+    pub large_verdict : Err (fault BookTooLarge 1 1) ≡ verdict (loaded m text)
+    large_verdict = sym (ap verdict too_large)
+
+    pub large_left : fresh [] ≡ left_by (loaded m text)
+    large_left = sym (ap left_by too_large)
+
+  pub small_enough : (text : List ℕ) → length text ≤ 65536 → loaded m text ≡ load_lines m false (fresh []) (lines_of text)
   unfolding loaded
-  too_large text h = cond-true (ltb 65536 (length text)) _ _ (lt-ltb 65536 (length text) h)
+  small_enough text h = cond-false (ltb 65536 (length text)) _ _ (le-ltb 65536 (length text) h)
 
-  pub small_enough : (text : List ℕ) (a : Account C) → length text ≤ 65536 → a ≡ fresh [] → loaded m text ≡ load_lines m false a (lines_of text)
-  unfolding loaded
-  small_enough text a h e = cond-false (ltb 65536 (length text)) _ _ (le-ltb 65536 (length text) h) ∙ ap (λ (x : Account C). load_lines m false x (lines_of text)) (sym e)
+  -- a load's answer, and what it leaves, by the result of its lines
+  module _ (text : List ℕ) (a b : Account C) (r : Result (Unit {0}) Fault) (lines : on_ok (λ u. b) r ≡ load_lines m false a (lines_of text)) (clear : a ≡ fresh []) (small : length text ≤ 65536) where
+    loaded_is : on_ok (λ u. b) r ≡ loaded m text
+    loaded_is = lines ∙ ap (λ (x : Account C). load_lines m false x (lines_of text)) clear ∙ sym (small_enough text small)
 
--- a load's answer, and what it leaves, by the result of its lines
-pub verdict_of : {C : Type 0} (b : Account C) (r : Result (Unit {0}) Fault) → r ≡ verdict (on_ok (λ u. b) r)
-verdict_of b (Ok u) = refl
-verdict_of b (Err e) = refl
+    pub lines_verdict : r ≡ verdict (loaded m text)
+    lines_verdict = by_result r ∙ ap verdict loaded_is
+      where
+        by_result : (x : Result (Unit {0}) Fault) → x ≡ verdict (on_ok (λ u. b) x)
+        by_result (Ok u) = refl
+        by_result (Err e) = refl
 
-pub left_refused : {C : Type 0} (b : Account C) (r : Result (Unit {0}) Fault) → is_err r ≡ true → fresh [] ≡ left_by (on_ok (λ u. b) r)
-left_refused b (Ok u) h = absurd (false≢true h)
-left_refused b (Err e) h = refl
+    pub refused_left : is_err r ≡ true → fresh [] ≡ left_by (loaded m text)
+    refused_left h = by_result r h ∙ ap left_by loaded_is
+      where
+        by_result : (x : Result (Unit {0}) Fault) → is_err x ≡ true → fresh [] ≡ left_by (on_ok (λ u. b) x)
+        by_result (Ok u) h = absurd (false≢true h)
+        by_result (Err e) h = refl
 
-pub left_accepted : {C : Type 0} (b : Account C) (r : Result (Unit {0}) Fault) → is_err r ≡ false → b ≡ left_by (on_ok (λ u. b) r)
-left_accepted b (Ok u) h = refl
-left_accepted b (Err e) h = absurd (true≢false h)
+    pub accepted_left : is_err r ≡ false → b ≡ left_by (loaded m text)
+    accepted_left h = by_result r h ∙ ap left_by loaded_is
+      where
+        by_result : (x : Result (Unit {0}) Fault) → is_err x ≡ false → b ≡ left_by (on_ok (λ u. b) x)
+        by_result (Ok u) h = refl
+        by_result (Err e) h = absurd (true≢false h)

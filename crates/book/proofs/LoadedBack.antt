@@ -16,8 +16,9 @@ use Rattle.account.specs.Calls.{add, after_if, history, refusal}
 use Rattle.rendering.specs.Texts.{book_text}
 use Rattle.statements.specs.Statements.{fault, unless}
 use Rattle.statements.specs.declared.fault.Fault.{Fault}
-use Rattle.book.specs.Laws.{Accepted, AgreesWithCalls, LoadsBack, added_from, opened_from, rows_of, stated_by}
+use Rattle.book.specs.Laws.{Accepted, LoadsBack, added_from, opened_from, rows_of, stated_by}
 use Rattle.book.specs.Loads.{loaded}
+use Rattle.book.proofs.Agreeing.{agrees}
 use Rattle.book.proofs.Fitting.{accepted_sized, sizes_fit}
 use Rattle.book.proofs.Holding.{Holds, adds_again, calls_hold, rows_are, rules_of}
 use Rattle.book.proofs.Sizes.{held_exact, held_fits, held_short}
@@ -52,17 +53,17 @@ module _ {C : Type 0} (m : Meaning C) where
       ∙ added_ok (n + 1) (after_if m a (add r) (refusal a (add r))) rs h.1
 
   -- the text of a book that is held is loaded as a planner of the same book
-  pub held_loads : ((text : List ℕ) → AgreesWithCalls m text) → (ds : List Decision) (b : Book) → open_refusal ds ≡ None → Holds ds b
+  pub held_loads : (ds : List Decision) (b : Book) → open_refusal ds ≡ None → Holds ds b
       → (a : Account C) × (loaded m (book_text b.decisions (rows_of b)) ≡ Ok a) × (a.book ≡ b)
-  held_loads agrees ds b opens h =
+  held_loads ds b opens h =
       let rs = rules_of ds b h in
       let adds = adds_again m ds b h in
       let same : book_text b.decisions (rows_of b) ≡ stated_by ds rs = ap₂ book_text h.decisions_are (sym (rows_are ds b h)) in
-      let loads : loaded m (stated_by ds rs) ≡ Ok (history m (fresh ds) (map add rs)) = agrees (stated_by ds rs) ds rs refl (held_short ds b opens h) (sizes_fit ds opens) (held_fits ds b opens h) (held_exact ds b h)
+      let loads : loaded m (stated_by ds rs) ≡ Ok (history m (fresh ds) (map add rs)) = agrees m (stated_by ds rs) ds rs refl (held_short ds b opens h) (sizes_fit ds opens) (held_fits ds b opens h) (held_exact ds b h)
       ∙ ap (λ (o : Option Fault). unless o (added_from m (length ds + 1) (fresh ds) rs)) (opened_none 1 [] ds opens)
       ∙ added_ok (length ds + 1) (fresh ds) rs adds.accepted in
       (history m (fresh ds) (map add rs), ap (loaded m) same ∙ loads, adds.book_is)
 
   -- so is what is written of a planner, whatever was called on it
-  pub loads_back : ((text : List ℕ) → AgreesWithCalls m text) → LoadsBack m
-  loads_back agrees ds opens calls exact = held_loads agrees ds (history m (fresh ds) calls).book opens (calls_hold m ds calls exact)
+  pub loads_back : LoadsBack m
+  loads_back ds opens calls exact = held_loads ds (history m (fresh ds) calls).book opens (calls_hold m ds calls exact)

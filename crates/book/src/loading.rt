@@ -53,6 +53,7 @@ fn clear<M: Measure>(planner: &mut Planner<M>)
 /// over no decisions. A text that is accepted is the text of its decisions and rules and of nothing else, and every
 /// text of decisions and of rules that new and compose make is loaded as open and the adds would have it, their
 /// refusals too.
+#[tactic(auto, using(crate::proofs::Agreeing::agrees, crate::proofs::LoadSteps::large_left, crate::proofs::LoadSteps::large_verdict, crate::proofs::Stating::read_as_stated))]
 pub fn load<M: Measure>(planner: &mut Planner<M>, text: &[u8]) -> Result<(), Fault>
     ensures value { result ≡ verdict (loaded M.meaning text.now) }
     ensures after { account_of planner.new ≡ left_by (loaded M.meaning text.now) }
