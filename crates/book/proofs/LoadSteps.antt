@@ -1,4 +1,6 @@
 -- Loading a text, line by line.
+use Rattle.std.proofs.lemmas.Grind.{common_steps}
+use Rattle.std.proofs.Common.{arith}
 use Rattle.std.proofs.Common.{◌≡◌, ℕ, ◌<◌, ◌≤◌, Bool, true, false, ◌||◌, ltb, List, [], ◌∷◌, length, is_err, Some, None, Ok, Err, Option, Result, sym, refl, ap, ◌∙◌}
 use Rattle.std.specs.Option.{option_map}
 use Rattle.std.proofs.lemmas.Bool.{cond-false, cond-true, false≢true, le-ltb, lt-ltb, true≢false}
@@ -55,15 +57,7 @@ module _ {C : Type 0} (m : Meaning C) (began : Bool) (a : Account C) (l : TextLi
 
     one_line : load_lines m began a (l ∷ rest) ≡ then (line_step m began a l) gone_on
     unfolding load_lines line_step
-    one_line = by_reading (read_line began l)
-      where
-        by_carrying : (s : Stated) (x : Result (Account C) Fault) → then x (λ b. load_lines m (began || is_rule s) b rest) ≡ then (then x (λ b. Ok (began || is_rule s, b))) gone_on
-        by_carrying s (Ok b) = refl
-        by_carrying s (Err e) = refl
-
-        by_reading : (r : Result Stated Fault) → then r (λ s. then (obeyed m l.number a s) (λ b. load_lines m (began || is_rule s) b rest)) ≡ then (then r carried_on) gone_on
-        by_reading (Ok s) = by_carrying s (obeyed m l.number a s)
-        by_reading (Err e) = refl
+    one_line = grind (arith, common_steps)
 
     pub lines_stop : (ls : List TextLine) (e : Fault) → ls ≡ l ∷ rest → line_step m began a l ≡ Err e → load_lines m began a ls ≡ Err e
     lines_stop ls e is h = ap (load_lines m began a) is ∙ one_line ∙ ap (λ (x : Result (Bool × Account C) Fault). then x gone_on) h
