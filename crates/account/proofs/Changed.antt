@@ -1,4 +1,5 @@
 -- An accepted change of rules keeps an account sound.
+use Rattle.std.proofs.lemmas.Grind.{common_steps}
 use Rattle.std.proofs.Common.{◌≡◌, ℕ, zero, suc, ◌<◌, ◌≤◌, Bool, true, false, cond, not, ◌&&◌, List, [], ◌∷◌, ◌++◌, length, take, drop, Some, None, Option, sym, refl, ap, ◌∙◌, ⊎_elim, arith}
 use Rattle.std.specs.List.{remove, AllByRecursion}
 use Rattle.std.proofs.ByRecursion.{All-weaker, All-append, All-take, All-drop}
@@ -19,7 +20,7 @@ use Rattle.account.proofs.Meeting.{met_nothing}
 use Rattle.account.proofs.Prices.{cost_unmet, cost_more}
 use Rattle.account.proofs.Sound.{Good, Known, Sound}
 use Rattle.account.proofs.Tested.{none_some, some_same}
-use Rattle.account.proofs.Trails.{chosen_known, size_known}
+use Rattle.account.proofs.Trails.{chosen_known}
 
 -- what has none of the decisions below n has none of them
 pub empty_below_lem : (s : Set) (n x : ℕ) → empty_below s n ≡ true → x < n → s x ≡ true → ⊥
@@ -64,10 +65,7 @@ unlawful b fs ps p law none =
 
 -- a lawful plan is idle behind the last decision
 pub lawful_idle : (b : Book) (p : Plan) → Lawful b p → (d : ℕ) → length b.decisions ≤ d → p d ≡ 0
-lawful_idle b p law d h = ⊎_elim (λ z. z) (λ (ne : p d ≡ 0 → ⊥). absurd (past ne)) (cases_eq (p d) 0)
-  where
-    past : (p d ≡ 0 → ⊥) → ⊥
-    past ne = omega (arith, size_known b.decisions d (omega (arith, law.in_range d)))
+lawful_idle b p law d h = grind (arith, common_steps)
 
 pub all_left : {X : Type 0} (P : X → Type 0) (xs ys : List X) → AllByRecursion P (xs ++ ys) → AllByRecursion P xs
 all_left P [] ys h = tt

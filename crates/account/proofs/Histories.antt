@@ -1,63 +1,45 @@
 -- Every list of calls leaves a sound account over the same decisions.
-use Rattle.std.proofs.Common.{◌≡◌, ℕ, zero, suc, ◌<◌, ◌≤◌, Bool, true, not, ◌&&◌, ◌||◌, ltb, List, [], ◌∷◌, length, Some, None, Option, refl, ap, ◌∙◌, ⊎_elim, arith}
+use Rattle.std.proofs.lemmas.Grind.{common_steps}
+use Rattle.std.proofs.Common.{◌≡◌, ℕ, zero, suc, ◌<◌, ◌≤◌, List, [], ◌∷◌, length, Some, None, Option, refl, ap, ◌∙◌, arith}
 use Rattle.std.proofs.lemmas.List.{length-take}
-use Rattle.std.proofs.lemmas.Bool.{and_parts, or_cases, both_ways, not-true, not-false, ltb-true}
 use Rattle.measure.specs.Meaning.{Meaning}
 use Rattle.measure.proofs.Laws.{Laws}
-use Rattle.rules.specs.Compose.{is_activate}
 use Rattle.rules.specs.Conditions.{condition}
-use Rattle.rules.specs.Judging.{row_refusal, known_decisions}
-use Rattle.rules.specs.Plans.{Book, Set, size_at, cost}
+use Rattle.rules.specs.Judging.{row_refusal}
+use Rattle.rules.specs.Plans.{Book}
 use Rattle.rules.specs.declared.decision.Decision.{Decision}
 use Rattle.rules.specs.declared.refusal.Refusal.{Refusal}
 use Rattle.rules.specs.declared.row.Kind.{Kind}
 use Rattle.rules.specs.declared.row.Kind.TheVariants.{Forbid, Activate, Price}
 use Rattle.rules.specs.declared.row.Row.{Row}
 use Rattle.rules.specs.declared.rule.Rule.{Rule}
-use Rattle.rules.proofs.Grounds.{when_none, or_else_none}
-use Rattle.account.specs.Accounts.{Account, chosen, either, fresh}
+use Rattle.rules.proofs.Grounds.{or_else_none}
+use Rattle.account.specs.Accounts.{Account, chosen, fresh}
 use Rattle.account.specs.Calls.{Call, add, withdraw, rank, run, best, exclusion, unexcluded, refusal, leaves, after_if, after, history}
 use Rattle.account.specs.Changes.{added, withdrawn}
-use Rattle.account.specs.Steps.{waits, pick, support, price_reason, tested, smallest_free, reasons, any_rests, Retreat, retreat, blamed, blame, with_exclusions, enter, extend, champion, conclude, step_at, step, advance_in, advance}
+use Rattle.account.specs.Steps.{waits, pick, extend, conclude, step_at, step, advance_in, advance}
 use Rattle.account.specs.declared.state.State.{State}
 use Rattle.account.specs.declared.state.State.TheVariants.{Open, Settled}
-use Rattle.account.proofs.Changed.{open_settled, added_sound, withdrawn_sound}
+use Rattle.account.proofs.Changed.{added_sound, withdrawn_sound}
 use Rattle.account.proofs.Sound.{Sound}
 use Rattle.account.proofs.Steady.{advance_sound}
-use Rattle.account.proofs.Tested.{none_some}
 
 -- the target of an activate rule that is not refused is a decision
 pub target_known : (ds : List Decision) (r : Row) → row_refusal ds r ≡ None → r.kind ≡ Activate → r.target < length ds
-target_known ds r h e =
-    let known = not-false (known_decisions (length ds) (condition r) && (not (is_activate r.kind) || ltb r.target (length ds))) (when_none _ _ (or_else_none _ _ h).0) in
-    ⊎_elim (λ k. absurd (both_ways (is_activate r.kind) (not-true (is_activate r.kind) k) (rw e refl))) (λ k. ltb-true r.target (length ds) k)
-    (or_cases (not (is_activate r.kind)) (ltb r.target (length ds)) (and_parts (known_decisions (length ds) (condition r)) (not (is_activate r.kind) || ltb r.target (length ds)) known).1)
+target_known ds r h e = grind (arith, common_steps)
 
 -- a rule has a pair
 pub rule_some : (r : Rule) → 1 ≤ length (condition r.row)
 rule_some r = rw (length-take r.row.count r.row.pairs) (omega (arith, r.some, r.full))
 
 module _ {C : Type 0} (m : Meaning C) where
-  blame_book : (a : Account C) (s : Set) (t : Bool) → (blame a s t).book ≡ a.book
-  blame_book a s t = go (retreat s a.trail)
-    where
-      go : (o : Option Retreat) → (blamed a s t o).book ≡ a.book
-      go None = refl
-      go (Some r) = refl
-
   extend_book : (a : Account C) (d : ℕ) → (extend m a d).book ≡ a.book
   unfolding extend
-  extend_book a d = go (smallest_free (tested m a d d) (size_at a.book.decisions d))
-    where
-      go : (o : Option ℕ) → (enter (with_exclusions a (tested m a d)) d o).book ≡ a.book
-      go (Some v) = refl
-      go None = blame_book (with_exclusions a (tested m a d)) (either (reasons (tested m a d d) (size_at a.book.decisions d)) (support a.book (chosen a.trail) d)) (any_rests (tested m a d d) (size_at a.book.decisions d))
+  extend_book a d = grind (arith, common_steps)
 
   conclude_book : (a : Account C) → (conclude m a).book ≡ a.book
   unfolding conclude
-  conclude_book a =
-      let b = champion m a.best (record { plan = chosen a.trail; cost = cost m a.book.prices (chosen a.trail) }) in
-      blame_book (record { book = a.book; ranks = a.ranks; trail = a.trail; exclusions = a.exclusions; best = Some b; state = a.state }) (price_reason m a.book b.cost (chosen a.trail)) true
+  conclude_book a = grind (arith, common_steps)
 
   -- a step leaves the book
   pub step_book : (a : Account C) → (step m a).book ≡ a.book
@@ -111,17 +93,7 @@ module _ {C : Type 0} (m : Meaning C) where
 
   -- a new account is sound
   pub fresh_sound : (ds : List Decision) → Sound m (fresh ds)
-  fresh_sound ds =
-      record {
-        formed = record { distinct = tt; in_range = λ d v e h. absurd (none_some e h); reasoned = λ d v e h. absurd (none_some e h); free = λ d h. refl };
-        known = record { some_pair = tt; known_targets = tt };
-        grounded = tt;
-        unforbidden = tt;
-        barred = λ d v e h. absurd (none_some e h);
-        resting = λ d v e h. absurd (none_some e h);
-        best_good = λ b h. absurd (none_some b h);
-        settled = λ e. absurd (open_settled e);
-      }
+  fresh_sound ds = grind (arith, common_steps)
 
   module _ (laws : Laws m) where
     leaves_sound : (a : Account C) (c : Call) → Sound m a → refusal a c ≡ None → Sound m (leaves m a c)

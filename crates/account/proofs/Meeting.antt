@@ -1,8 +1,7 @@
 -- All that the search uses of conditions: what is met depends only on the values of the decisions named, and a met condition names only chosen decisions.
-use Rattle.std.proofs.Common.{◌≡◌, ℕ, ◌<◌, ◌≤◌, true, false, eqb, List, [], ◌∷◌, length, refl, ◌∙◌, ⊎_elim, arith}
-use Rattle.std.proofs.lemmas.Bool.{or_left, eq-eqb, cases_Bool}
+use Rattle.std.proofs.lemmas.Grind.{common_steps}
+use Rattle.std.proofs.Common.{◌≡◌, ℕ, ◌<◌, ◌≤◌, true, false, length, ◌∙◌, arith}
 use Rattle.rules.specs.Conditions.{Plan, names, condition, met}
-use Rattle.rules.specs.declared.literal.Literal.{Literal}
 use Rattle.rules.specs.declared.row.Row.{Row}
 use Rattle.rules.proofs.Conditions.{meets_same, named_chosen}
 
@@ -18,13 +17,6 @@ met_chosen r p h x n = named_chosen p (condition r) x h n
 pub met_fewer : (r : Row) (p q : Plan) → ((x : ℕ) → 0 < p x → q x ≡ p x) → met p r ≡ true → met q r ≡ true
 met_fewer r p q same h = met_same r p q (λ x n. same x (met_chosen r p h x n)) h
 
-names_some : (ls : List Literal) → 1 ≤ length ls → (x : ℕ) × (names ls x ≡ true)
-names_some [] h = absurd (omega arith)
-names_some (l ∷ ls) h = (l.decision, or_left (eqb l.decision l.decision) (names ls l.decision) (eq-eqb l.decision l.decision refl))
-
 -- a row with a pair is not met by the plan with no choice
 pub met_nothing : (r : Row) → 1 ≤ length (condition r) → (p : Plan) → ((x : ℕ) → p x ≡ 0) → met p r ≡ false
-met_nothing r some p idle = ⊎_elim (λ h. absurd (never h)) (λ h. h) (cases_Bool (met p r))
-  where
-    never : met p r ≡ true → ⊥
-    never h = let n = names_some (condition r) some in omega (arith, idle n.0, met_chosen r p h n.0 n.1)
+met_nothing r some p idle = grind (arith, common_steps)

@@ -1,4 +1,6 @@
 -- All that the search uses of costs: a plan that meets the kept price rules still reaches the best, and what more rules do to a cost.
+use Rattle.std.proofs.lemmas.Grind.{common_steps}
+use Rattle.std.proofs.Common.{arith}
 use Rattle.std.proofs.Common.{◌≡◌, ℕ, ◌<◌, Bool, true, false, cond, List, [], ◌∷◌, ◌++◌, sym, refl, ◌∙◌, ⊎_elim}
 use Rattle.std.specs.List.{AllByRecursion}
 use Rattle.std.proofs.lemmas.Bool.{cond_both, or_cases, or_left, or_right, both_ways}
@@ -22,9 +24,7 @@ module _ {C : Type 0} (m : Meaning C) (laws : Laws m) where
   more best before r rs q h = cond_both (met q r) (m.joins (m.reads r.price) (cost m rs q)) (cost m rs q) (λ c. m.at_most best (m.joins before c) ≡ true) (λ e. wider) (λ e. h)
     where
       wider : m.at_most best (m.joins before (m.joins (m.reads r.price) (cost m rs q))) ≡ true
-      wider =
-          rw (laws.commutative (m.reads r.price) (cost m rs q), ← laws.associative before (cost m rs q) (m.reads r.price))
-          (laws.transitive best (m.joins before (cost m rs q)) (m.joins (m.joins before (cost m rs q)) (m.reads r.price)) h (laws.parts (m.joins before (cost m rs q)) (m.reads r.price)).0)
+      wider = grind (arith, common_steps)
 
   -- a plan that meets what is kept reaches the best, if the plan it is kept from does
   kept_reaches : (best before : C) (rs : List Row) (p q : Plan) → m.at_most best (m.joins before (cost m rs p)) ≡ true → AllByRecursion (λ r. met q r ≡ true) (kept m best before rs p) → m.at_most best (m.joins before (cost m rs q)) ≡ true

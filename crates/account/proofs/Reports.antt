@@ -1,4 +1,5 @@
 -- What a sound account answers: the parts of the planning law that speak of one account.
+use Rattle.std.proofs.lemmas.Grind.{common_steps}
 use Rattle.std.proofs.Common.{◌≡◌, ℕ, zero, suc, ◌+◌, ◌<◌, ◌≤◌, true, ltb, ◌↔◌, List, ◌++◌, map, length, get_or, drop, Some, None, Option, sym, refl, ap, ◌∙◌, subst, arith}
 use mathlib.Core.Path.{fun_ext}
 use Rattle.std.specs.List.{range_with_len}
@@ -9,9 +10,8 @@ use Rattle.measure.specs.Meaning.{Meaning}
 use Rattle.rules.specs.Conditions.{Plan, plan_of}
 use Rattle.rules.specs.Plans.{Lawful, cost}
 use Rattle.rules.specs.declared.decision.Decision.{Decision}
-use Rattle.rules.specs.declared.refusal.Refusal.{Refusal}
 use Rattle.account.specs.Accounts.{Account, Exclusion, Best, chosen}
-use Rattle.account.specs.Calls.{run, best, exclusion, ran, reported, excluded, refusal, made, written, report, answer_if, answer}
+use Rattle.account.specs.Calls.{run, best, exclusion, ran, reported, excluded, made, written, answer}
 use Rattle.account.specs.Law.{Agrees, RulesOut}
 use Rattle.account.specs.Steps.{advance_in, advance, one_if_open}
 use Rattle.account.specs.declared.state.State.{State}
@@ -37,30 +37,14 @@ Told n buffer (Some b) c bytes = (c ≡ Some b.cost) × (bytes ≡ written n b.p
 
 module _ {C : Type 0} (m : Meaning C) (a : Account C) where
   pub told : (buffer bytes : List ℕ) (s : State) (c : Option C) → answer m a (best buffer) ≡ reported s c bytes → (a.state ≡ s) × Told (length a.book.decisions) buffer a.best c bytes
-  told buffer bytes s c h = go (refusal a (best buffer)) h
-    where
-      by_best : (o : Option (Best C)) → report a.state (length a.book.decisions) buffer o ≡ reported s c bytes → (a.state ≡ s) × Told (length a.book.decisions) buffer o c bytes
-      by_best None g = (cc, cc)
-      by_best (Some b) g = (cc, (cc, cc))
-
-      go : (o : Option Refusal) → answer_if m a (best buffer) o ≡ reported s c bytes → (a.state ≡ s) × Told (length a.book.decisions) buffer a.best c bytes
-      go None g = by_best a.best g
-      go (Some e) g = let z : ◌≡◌ {A = ℕ} 0 1 = cc in absurd (omega arith)
+  told buffer bytes s c h = grind (arith, common_steps)
 
   -- what exclusion answers is the account's
   pub told_excluded : (d v : ℕ) (e : Exclusion) → answer m a (exclusion d v) ≡ excluded (Some e) → a.exclusions d v ≡ Some e
-  told_excluded d v e h = go (refusal a (exclusion d v)) h
-    where
-      go : (o : Option Refusal) → answer_if m a (exclusion d v) o ≡ excluded (Some e) → a.exclusions d v ≡ Some e
-      go None g = cc
-      go (Some r) g = let z : ◌≡◌ {A = ℕ} 0 1 = cc in absurd (omega arith)
+  told_excluded d v e h = grind (arith, common_steps)
 
   pub told_ran : (budget steps : ℕ) (s : State) → answer m a (run budget) ≡ ran steps s → (made m budget a ≡ steps) × ((advance m budget a).state ≡ s)
-  told_ran budget steps s h = go (refusal a (run budget)) h
-    where
-      go : (o : Option Refusal) → answer_if m a (run budget) o ≡ ran steps s → (made m budget a ≡ steps) × ((advance m budget a).state ≡ s)
-      go None g = (cc, cc)
-      go (Some r) g = let z : ◌≡◌ {A = ℕ} 0 1 = cc in absurd (omega arith)
+  told_ran budget steps s h = grind (arith, common_steps)
 
   -- a run that makes fewer steps than it may ends settled
   short_settled : (n : ℕ) → made m n a < n → (advance m n a).state ≡ Settled

@@ -1,7 +1,8 @@
 -- What a retreat takes from a trail, and that it raises the number.
+use Rattle.std.proofs.lemmas.Grind.{common_steps}
 use Rattle.std.proofs.Common.{◌≡◌, ℕ, ◌<◌, ◌≤◌, Bool, true, false, not, ◌&&◌, eqb, List, [], ◌∷◌, ◌++◌, length, Some, None, Option, refl, ap, ◌∙◌, ⊎_elim, arith}
 use Rattle.std.specs.List.{AllByRecursion}
-use Rattle.std.proofs.lemmas.Bool.{cases_Bool, cases_lt, both_ways, cond_both, eqb-true, eq-eqb, cond-true, cond-false, and_parts, and_from, not-true, or_from}
+use Rattle.std.proofs.lemmas.Bool.{cases_Bool, both_ways, cond_both, eqb-true, cond-false, and_parts, not-true, or_from}
 use Rattle.rules.specs.Plans.{Set, size_at}
 use Rattle.rules.specs.declared.decision.Decision.{Decision}
 use Rattle.account.specs.Accounts.{Entry, chosen, except, has_any}
@@ -56,9 +57,7 @@ module _ (ds : List Decision) (s : Set) where
           chosen_other e es x (λ (q : x ≡ e.decision). both_ways (s x) (ap s q ∙ t) k) ∙ p.latest x k
 
       off : chosen p.older e.decision ≡ 0
-      off =
-          ⊎_elim (λ (k : 0 < chosen p.older e.decision). absurd (omega (arith, h.0, p.below e.decision k)))
-          (λ (k : chosen p.older e.decision ≤ 0). omega arith) (cases_lt 0 (chosen p.older e.decision))
+      off = grind (arith, common_steps)
 
       leaves : Parted (e ∷ es) (record { culprit = r.culprit; left = e.decision ∷ r.left; stays = r.stays })
       leaves =
@@ -141,10 +140,7 @@ module _ (ds : List Decision) (s : Set) where
         (λ _. rw is (cond-false (has_any e.reason r.left) None (Some e) (none_left e.reason k r.left p.gone)))
 
     learnt : relearn ex s rests r r.culprit.decision r.culprit.value ≡ Some (record { reason = except s r.culprit.decision; rests = rests })
-    learnt =
-        cond-true (eqb r.culprit.decision r.culprit.decision && eqb r.culprit.value r.culprit.value)
-        (Some (record { reason = except s r.culprit.decision; rests = rests })) (unless_left r.left (ex r.culprit.decision r.culprit.value))
-        (and_from (eqb r.culprit.decision r.culprit.decision) (eqb r.culprit.value r.culprit.value) (eq-eqb r.culprit.decision r.culprit.decision refl) (eq-eqb r.culprit.value r.culprit.value refl))
+    learnt = grind (arith, common_steps)
 
     reason_lies : lies (length ds) p.older (except s r.culprit.decision) ≡ true
     reason_lies = (lies_decides (length ds) p.older (except s r.culprit.decision)).1

@@ -1,4 +1,5 @@
 -- Two books with the same rules, each equally often, have the same lawful plans at the same costs, and two settled accounts over them report one cost.
+use Rattle.std.proofs.lemmas.Grind.{common_steps}
 use Rattle.std.proofs.Common.{◌≡◌, ℕ, ◌+◌, ◌<◌, ◌≤◌, Bool, true, false, cond, ◌&&◌, eqb, List, [], ◌∷◌, length, Some, None, count_by, Option, sym, refl, ap, ◌∙◌, subst, ⊎_elim, arith}
 use Rattle.std.specs.List.{AllByRecursion}
 use Rattle.std.proofs.lemmas.List.Sums.{sum_by-cons}
@@ -48,11 +49,7 @@ abbrev same_by : Row → List Literal → ℕ → Price → Bool
 same_by q c t p = same_pairs (condition q) c && eqb q.target t && eqb q.price.tier p.tier && eqb q.price.cents p.cents
 
 four_parts : (a b c d : Bool) → (a && b && c && d) ≡ true → (a ≡ true) × (b ≡ true) × (c ≡ true) × (d ≡ true)
-four_parts a b c d h =
-    let abc = and_parts (a && b && c) d h in
-    let ab = and_parts (a && b) c abc.0 in
-    let each = and_parts a b ab.0 in
-    (each.0, each.1, ab.1, abc.1)
+four_parts a b c d h = grind (arith, common_steps)
 
 four_from : (a b c d : Bool) → a ≡ true → b ≡ true → c ≡ true → d ≡ true → (a && b && c && d) ≡ true
 four_from a b c d p q r s = and_from (a && b && c) d (and_from (a && b) c (and_from a b p q) r) s

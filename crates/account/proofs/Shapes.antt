@@ -1,16 +1,17 @@
 -- A blame stays within the trail, and one step keeps an account formed.
-use Rattle.std.proofs.Common.{◌≡◌, ℕ, ◌<◌, ◌≤◌, Bool, true, false, ◌∷◌, length, Some, None, Option, ap, ◌∙◌, ⊎_elim, arith}
-use Rattle.std.proofs.lemmas.Bool.{cases_eq, or_cases, both_ways}
+use Rattle.std.proofs.lemmas.Grind.{common_steps}
+use Rattle.std.proofs.Common.{◌≡◌, ℕ, ◌<◌, ◌≤◌, Bool, true, false, length, Some, None, Option, ap, ◌∙◌, ⊎_elim, arith}
+use Rattle.std.proofs.lemmas.Bool.{or_cases}
 use Rattle.measure.specs.Meaning.{Meaning}
 use Rattle.measure.proofs.Laws.{Laws}
 use Rattle.rules.specs.Plans.{Set, size_at, cost}
-use Rattle.account.specs.Accounts.{Account, Entry, Exclusion, chosen, except, either, has_any}
+use Rattle.account.specs.Accounts.{Account, Exclusion, chosen, except, either}
 use Rattle.account.specs.Steps.{waits, pick, support, choose, price_reason, tested, smallest_free, reasons, any_rests, Retreat, retreat, relearn, blamed, blame, with_exclusions, enter, extend, champion, conclude, step_at, step}
 use Rattle.account.proofs.Finds.{Picked, picked, waits_idle, support_chosen, Free, smallest, reasons_in}
 use Rattle.account.proofs.Formed.{Formed}
 use Rattle.account.proofs.Prices.{price_chosen}
-use Rattle.account.proofs.Tested.{Given, New, given_within, tested_some, tested_other, except_parts, relearned, relearned_free}
-use Rattle.account.proofs.Trails.{Within, chosen_here, chosen_other, chosen_range, Left, Retreated, retreated}
+use Rattle.account.proofs.Tested.{Given, New, given_within, tested_some, tested_other, relearned}
+use Rattle.account.proofs.Trails.{Within, chosen_other, chosen_range, Left, Retreated, retreated}
 
 module _ {C : Type 0} (a : Account C) (f : Formed a) (s : Set) (rests : Bool) (w : Within a.trail s) where
   module _ (r : Retreat) (l : Left a.book s a.trail r) where
@@ -23,18 +24,10 @@ module _ {C : Type 0} (a : Account C) (f : Formed a) (s : Set) (rests : Bool) (w
             (w r.culprit.decision l.is_blamed, chosen_range a.book.decisions a.trail f.distinct r.culprit.decision)
 
     reasoned : (d v : ℕ) (e : Exclusion) → relearn a.exclusions s rests r d v ≡ Some e → (x : ℕ) → e.reason x ≡ true → 0 < chosen r.stays x
-    reasoned d v e h x t = ⊎_elim new old (relearned a.exclusions s rests r d v e h)
-      where
-        new : (d ≡ r.culprit.decision) × (v ≡ r.culprit.value) × (e ≡ record { reason = except s r.culprit.decision; rests = rests }) → 0 < chosen r.stays x
-        new k = let parts = except_parts s r.culprit.decision x (rw k.2 at t) in rw (l.others x parts.0 parts.1) (w x parts.0)
-
-        old : (a.exclusions d v ≡ Some e) × (has_any e.reason r.left ≡ false) → 0 < chosen r.stays x
-        old k = ⊎_elim (λ q. rw q (f.reasoned d v e k.0 x t)) (λ q. absurd (both_ways (has_any e.reason r.left) k.1 (q.1 e.reason t))) (l.each x)
+    reasoned d v e h x t = grind (arith, common_steps)
 
     free : (d : ℕ) → 0 < chosen r.stays d → relearn a.exclusions s rests r d (chosen r.stays d) ≡ None
-    free d h =
-        relearned_free a.exclusions s rests r d (chosen r.stays d) (λ (q : d ≡ r.culprit.decision). omega (arith, l.gone, ap (chosen r.stays) q))
-        (⊎_elim (λ (q : chosen r.stays d ≡ chosen a.trail d). rw q (f.free d (rw q at h))) (λ q. absurd (omega (arith, q.0))) (l.each d))
+    free d h = grind (arith, common_steps)
 
   -- a blame within the trail keeps an account formed
   pub blame_formed : Formed (blame a s rests)
@@ -78,22 +71,7 @@ module _ {C : Type 0} (m : Meaning C) (laws : Laws m) where
 
   -- an entry keeps an account formed
   pub entered_formed : (a : Account C) → Formed a → (d v : ℕ) → chosen a.trail d ≡ 0 → 1 ≤ v → v ≤ size_at a.book.decisions d → a.exclusions d v ≡ None → Formed (enter a d (Some v))
-  entered_formed a f d v idle low high none =
-      record {
-        distinct = (idle, low, high, f.distinct);
-        in_range = f.in_range;
-        reasoned = λ x w e h y t. later y (f.reasoned x w e h y t);
-        free =
-            λ x h. ⊎_elim (λ (q : x ≡ d). rw (chosen_here new a.trail x q, q) none)
-            (λ (ne : x ≡ d → ⊥). rw (chosen_other new a.trail x ne) (f.free x (rw (chosen_other new a.trail x ne) at h)))
-            (cases_eq x d);
-      }
-    where
-      new : Entry
-      new = record { decision = d; value = v; support = support a.book (chosen a.trail) d }
-
-      later : (y : ℕ) → 0 < chosen a.trail y → 0 < chosen (new ∷ a.trail) y
-      later y h = rw (chosen_other new a.trail y (λ (q : y ≡ d). omega (arith, idle, ap (chosen a.trail) q))) h
+  entered_formed a f d v idle low high none = grind (arith, common_steps)
 
   pub extend_formed : (a : Account C) → Formed a → (d : ℕ) → waits a.book (chosen a.trail) d ≡ true → Formed (extend m a d)
   unfolding extend

@@ -1,8 +1,9 @@
 -- What holds of every account reached by calls, and that a blame keeps it.
-use Rattle.std.proofs.Common.{◌≡◌, ℕ, ◌<◌, ◌≤◌, Bool, true, false, List, length, Some, None, Option, sym, ap, ◌∙◌, ⊎_elim, arith}
+use Rattle.std.proofs.lemmas.Grind.{common_steps}
+use Rattle.std.proofs.Common.{◌≡◌, ℕ, ◌<◌, ◌≤◌, Bool, true, false, List, length, Some, None, Option, sym, ◌∙◌, ⊎_elim, arith}
 use Rattle.std.specs.List.{AllByRecursion}
 use Rattle.std.proofs.ByRecursion.{All-weaker}
-use Rattle.std.proofs.lemmas.Bool.{cases_Bool, cases_eq, both_ways}
+use Rattle.std.proofs.lemmas.Bool.{cases_Bool, both_ways}
 use Rattle.measure.specs.Meaning.{Meaning}
 use Rattle.rules.specs.Conditions.{Plan, condition, met}
 use Rattle.rules.specs.Plans.{Book, Set, Lawful, cost}
@@ -14,7 +15,7 @@ use Rattle.account.specs.declared.state.State.TheVariants.{Settled}
 use Rattle.account.proofs.Formed.{Formed}
 use Rattle.account.proofs.Meeting.{met_fewer}
 use Rattle.account.proofs.Shapes.{blame_formed}
-use Rattle.account.proofs.Tested.{relearned, except_from}
+use Rattle.account.proofs.Tested.{relearned}
 use Rattle.account.proofs.Trails.{Within, Grounded, Left, Retreated, retreated}
 
 -- a best is lawful, and its cost is the defined one
@@ -68,13 +69,7 @@ module _ {C : Type 0} (m : Meaning C) (a : Account C) (s : Sound m a) (set : Set
     barred_then d v e h p law has agrees = ⊎_elim new old (relearned a.exclusions set rests r d v e h)
       where
         new : (d ≡ r.culprit.decision) × (v ≡ r.culprit.value) × (e ≡ record { reason = except set r.culprit.decision; rests = rests }) → RulesOut m a e.rests p
-        new k = rw k.2 (bars p law same)
-          where
-            same : (x : ℕ) → set x ≡ true → p x ≡ chosen a.trail x
-            same x t =
-                ⊎_elim (λ (q : x ≡ r.culprit.decision). rw q (ap p (sym k.0) ∙ has ∙ k.1 ∙ sym l.was))
-                (λ (ne : x ≡ r.culprit.decision → ⊥). agrees x (rw k.2 (except_from set r.culprit.decision x t ne)) ∙ l.others x t ne)
-                (cases_eq x r.culprit.decision)
+        new k = grind (arith, common_steps)
 
         old : (a.exclusions d v ≡ Some e) × (has_any e.reason r.left ≡ false) → RulesOut m a e.rests p
         old k =

@@ -1,5 +1,6 @@
 -- What the test of a value finds, and what the exclusions say after it.
-use Rattle.std.proofs.Common.{◌≡◌, ℕ, ◌<◌, ◌≤◌, Bool, true, false, cond, not, ◌&&◌, eqb, leb, ◌⊎◌, Some, None, Option, sym, refl, inl, inr, ⊎_elim, arith}
+use Rattle.std.proofs.lemmas.Grind.{common_steps}
+use Rattle.std.proofs.Common.{◌≡◌, ℕ, ◌<◌, ◌≤◌, Bool, true, false, not, ◌&&◌, eqb, leb, ◌⊎◌, Some, None, Option, sym, refl, inl, inr, ⊎_elim, arith}
 use Rattle.std.specs.List.{ContainsAt as Has, AllByRecursion}
 use Rattle.std.proofs.ByRecursion.{all-has}
 use Rattle.std.proofs.lemmas.Bool.{cases_eq, and_parts, and_from, both_ways, eqb-true, eqb-false, eq-eqb, ne_eqb, not-true, not_from_false, leb-true, le-leb}
@@ -11,7 +12,7 @@ use Rattle.rules.specs.Refusals.{when, or_else}
 use Rattle.rules.specs.declared.row.Row.{Row}
 use Rattle.account.specs.Accounts.{Account, Exclusion, Best, chosen, except, has_any}
 use Rattle.account.specs.Law.{RulesOut}
-use Rattle.account.specs.Steps.{choose, first_met, price_reason, by_forbid, by_price, test, is_value, tested_at, tested, Retreat, unless_left, relearn}
+use Rattle.account.specs.Steps.{choose, first_met, price_reason, by_forbid, by_price, test, is_value, tested_at, tested, Retreat, relearn}
 use Rattle.account.proofs.Finds.{First, first_met_lem}
 use Rattle.account.proofs.Meeting.{met_same, met_chosen}
 use Rattle.account.proofs.Prices.{price_chosen, price_bars}
@@ -132,30 +133,8 @@ module _ {C : Type 0} (m : Meaning C) (a : Account C) (d : ℕ) where
   -- elsewhere nothing changes
   pub tested_other : (x v : ℕ) → (x ≡ d → ⊥) → tested m a d x v ≡ a.exclusions x v
   unfolding tested
-  tested_other x v ne = rw (ne_eqb x d ne) (go (a.exclusions x v))
-    where
-      go : (o : Option Exclusion) → tested_at m a d v false o ≡ o
-      go None = refl
-      go (Some e) = refl
+  tested_other x v ne = grind (arith, common_steps)
 
 -- an exclusion after a retreat: the blamed value's, or one that stood before and names nothing that left
 pub relearned : (ex : ℕ → ℕ → Option Exclusion) (s : Set) (rests : Bool) (r : Retreat) (x v : ℕ) (e : Exclusion) → relearn ex s rests r x v ≡ Some e → ((x ≡ r.culprit.decision) × (v ≡ r.culprit.value) × (e ≡ record { reason = except s r.culprit.decision; rests = rests })) ⊎ ((ex x v ≡ Some e) × (has_any e.reason r.left ≡ false))
-relearned ex s rests r x v e h = go (eqb x r.culprit.decision && eqb v r.culprit.value) refl h
-  where
-    kept : (o : Option Exclusion) → unless_left r.left o ≡ Some e → (o ≡ Some e) × (has_any e.reason r.left ≡ false)
-    kept None g = absurd (none_some e g)
-    kept (Some f) g = at_test (has_any f.reason r.left) refl g
-      where
-        at_test : (t : Bool) → has_any f.reason r.left ≡ t → cond t None (Some f) ≡ Some e → (Some f ≡ Some e) × (has_any e.reason r.left ≡ false)
-        at_test true q k = absurd (none_some e k)
-        at_test false q k = (k, rw (← some_same f e k) q)
-
-    go : (t : Bool) → (eqb x r.culprit.decision && eqb v r.culprit.value) ≡ t → cond t (Some (record { reason = except s r.culprit.decision; rests = rests })) (unless_left r.left (ex x v)) ≡ Some e → ((x ≡ r.culprit.decision) × (v ≡ r.culprit.value) × (e ≡ record { reason = except s r.culprit.decision; rests = rests })) ⊎ ((ex x v ≡ Some e) × (has_any e.reason r.left ≡ false))
-    go true q g =
-        let parts = and_parts (eqb x r.culprit.decision) (eqb v r.culprit.value) q in
-        inl (eqb-true x r.culprit.decision parts.0, eqb-true v r.culprit.value parts.1, sym (some_same (record { reason = except s r.culprit.decision; rests = rests }) e g))
-    go false q g = inr (kept (ex x v) g)
-
--- apart from the blamed decision a value that was free stays free
-pub relearned_free : (ex : ℕ → ℕ → Option Exclusion) (s : Set) (rests : Bool) (r : Retreat) (x v : ℕ) → (x ≡ r.culprit.decision → ⊥) → ex x v ≡ None → relearn ex s rests r x v ≡ None
-relearned_free ex s rests r x v ne q = rw (ne_eqb x r.culprit.decision ne, q) refl
+relearned ex s rests r x v e h = grind (arith, common_steps)

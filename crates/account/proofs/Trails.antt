@@ -1,10 +1,10 @@
 -- What a trail's plan has, and what a retreat from a blame leaves of a trail.
-use Rattle.std.proofs.Common.{◌≡◌, ℕ, ◌<◌, ◌≤◌, true, false, eqb, ◌⊎◌, List, [], ◌∷◌, length, Some, None, Option, sym, refl, ap, ◌∙◌, inl, inr, ⊎_elim, arith}
+use Rattle.std.proofs.lemmas.Grind.{common_steps}
+use Rattle.std.proofs.Common.{◌≡◌, ℕ, ◌<◌, ◌≤◌, true, false, eqb, ◌⊎◌, List, [], ◌∷◌, length, Some, None, Option, sym, ◌∙◌, inl, inr, ⊎_elim, arith}
 use Rattle.std.specs.List.{ContainsAt as Has}
-use Rattle.std.proofs.lemmas.List.{get_or_past}
-use Rattle.std.proofs.lemmas.Bool.{cond_both, cond-true, cond-false, cases_eq, cases_lt, or_left, or_right, both_ways, eq-eqb, ne_eqb}
+use Rattle.std.proofs.lemmas.Bool.{cond_both, cond-true, cond-false, cases_eq, both_ways, eq-eqb, ne_eqb}
 use Rattle.rules.specs.Conditions.{Plan, names, condition, met}
-use Rattle.rules.specs.Plans.{Book, Set, absent, size_at, on_at}
+use Rattle.rules.specs.Plans.{Book, Set, size_at, on_at}
 use Rattle.rules.specs.declared.decision.Decision.{Decision}
 use Rattle.rules.specs.declared.row.Row.{Row}
 use Rattle.account.specs.Accounts.{Entry, chosen, has_any}
@@ -24,10 +24,7 @@ chosen_other e es x h = cond-false (eqb x e.decision) e.value (chosen es x) (ne_
 
 -- a decision with a value is one of those that there are
 pub size_known : (ds : List Decision) (d : ℕ) → 1 ≤ size_at ds d → d < length ds
-size_known ds d h = ⊎_elim (λ l. l) (λ l. absurd (past l)) (cases_lt d (length ds))
-  where
-    past : length ds ≤ d → ⊥
-    past l = omega (arith, ap (λ (x : Decision). x.size) (get_or_past ds d absent l))
+size_known ds d h = grind (arith, common_steps)
 
 -- the values of a trail are in range
 pub chosen_range : (ds : List Decision) (es : List Entry) → Distinct ds es → (x : ℕ) → chosen es x ≤ size_at ds x
@@ -68,19 +65,7 @@ Retreated b blame es (Some r) = Left b blame es r
 
 module _ (b : Book) (blame : Set) (e : Entry) (es : List Entry) (dis : Distinct b.decisions (e ∷ es)) where
   blamed_first : blame e.decision ≡ true → Left b blame (e ∷ es) (record { culprit = e; left = e.decision ∷ []; stays = es })
-  blamed_first h =
-      record {
-        is_blamed = h;
-        was = chosen_here e es e.decision refl;
-        gone = dis.0;
-        others = λ x t ne. sym (chosen_other e es x ne);
-        each =
-            λ x. ⊎_elim (λ (q : x ≡ e.decision). inr (rw q dis.0, λ s t. or_left (s e.decision) false (rw q at t)))
-            (λ (ne : x ≡ e.decision → ⊥). inl (sym (chosen_other e es x ne)))
-            (cases_eq x e.decision);
-        distinct = dis.3;
-        grounded = λ gr. gr.1;
-      }
+  blamed_first h = grind (arith, common_steps)
 
   module _ (unblamed : blame e.decision ≡ false) (r : Retreat) (l : Left b blame es r) where
     apart : (x : ℕ) → blame x ≡ true → x ≡ e.decision → ⊥
@@ -90,19 +75,7 @@ module _ (b : Book) (blame : Set) (e : Entry) (es : List Entry) (dis : Distinct 
     idle = ⊎_elim (λ h. h ∙ dis.0) (λ h. h.0) (l.each e.decision)
 
     leaves : Left b blame (e ∷ es) (record { culprit = r.culprit; left = e.decision ∷ r.left; stays = r.stays })
-    leaves =
-        record {
-          is_blamed = l.is_blamed;
-          was = chosen_other e es r.culprit.decision (apart r.culprit.decision l.is_blamed) ∙ l.was;
-          gone = l.gone;
-          others = λ x t ne. l.others x t ne ∙ sym (chosen_other e es x (apart x t));
-          each =
-              λ x. ⊎_elim (λ (q : x ≡ e.decision). inr (rw q idle, λ s t. or_left (s e.decision) (has_any s r.left) (rw q at t)))
-              (λ (ne : x ≡ e.decision → ⊥). ⊎_elim (λ h. inl (h ∙ sym (chosen_other e es x ne))) (λ h. inr (h.0, λ s t. or_right (s e.decision) (has_any s r.left) (h.1 s t))) (l.each x))
-              (cases_eq x e.decision);
-          distinct = l.distinct;
-          grounded = λ gr. l.grounded gr.1;
-        }
+    leaves = grind (arith, common_steps)
 
     module _ (apart-from-left : has_any e.support r.left ≡ false) where
       still : Ground b (chosen es) e → Ground b (chosen r.stays) e

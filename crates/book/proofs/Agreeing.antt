@@ -91,7 +91,7 @@ module _ {C : Type 0} (m : Meaning C) where
   -- the law
   pub agrees : (text : List ℕ) → AgreesWithCalls m text
   agrees text ds rs text_is short sizes pairs exact =
-      small_enough m text (fresh []) short refl
+      small_enough m text short
       ∙ ap (λ (t : List ℕ). load_lines m false (fresh []) (lines_of t)) text_is
       ∙ ap (load_lines m false (fresh [])) (lines_stated ds rs sizes pairs exact)
       ∙ load_decisions ds sizes 1 [] (rule_lines rs)

@@ -14,19 +14,6 @@ use Rattle.account.specs.Calls.{add, add_refusal, after, after_if, answer, answe
 use Rattle.account.specs.Changes.{added}
 use Rattle.planner.specs.Answers.{says_done}
 
--- the first of two grounds decides
-pub first_refuses : (x y : Option Refusal) (e : Refusal) → Err e ≡ as_result x → Err e ≡ as_result (or_else x y)
-first_refuses (Some f) y e h = h
-first_refuses None y e h = cc
-
-pub first_leaves : {X : Type 0} (x y : Option Refusal) (e : Refusal) (old new : X) → Err e ≡ as_result x → old ≡ unless_refused (or_else x y) old new
-first_leaves (Some f) y e old new h = refl
-first_leaves None y e old new h = cc
-
-pub no_first : (x : Option Refusal) (u : Unit {0}) → Ok u ≡ as_result x → x ≡ None
-no_first (Some f) u h = cc
-no_first None u h = refl
-
 module _ {C : Type 0} (m : Meaning C) (a : Account C) (r : Rule) where
   said : (x : Result (Unit {0}) Refusal) (o : Option Refusal) → says_done x ≡ answer_if m a (add r) o → x ≡ as_result o
   said (Ok u) None h = refl
@@ -38,17 +25,14 @@ module _ {C : Type 0} (m : Meaning C) (a : Account C) (r : Rule) where
   left (Some e) = refl
   left None = refl
 
-  module _ (k : Kind) (ps : List Literal) (t : ℕ) (price : Price) (old : Row) (u : Unit {0}) (accepted : Ok u ≡ as_result (compose_refusal k ps price)) (is : r.row ≡ unless_refused (compose_refusal k ps price) old (composed k ps t price)) where
-    row_is : r.row ≡ composed k ps t price
-    row_is = is ∙ ap (λ (o : Option Refusal). unless_refused o old (composed k ps t price)) (no_first (compose_refusal k ps price) u accepted)
-
+  module _ (k : Kind) (ps : List Literal) (t : ℕ) (price : Price) (accepted : compose_refusal k ps price ≡ None) (is : r.row ≡ composed k ps t price) where
     ground : add_refusal a r.row ≡ or_else (compose_refusal k ps price) (add_refusal a (composed k ps t price))
-    ground = ap (add_refusal a) row_is ∙ ap (λ (o : Option Refusal). or_else o (add_refusal a (composed k ps t price))) (sym (no_first (compose_refusal k ps price) u accepted))
+    ground = ap (add_refusal a) is ∙ ap (λ (o : Option Refusal). or_else o (add_refusal a (composed k ps t price))) (sym accepted)
 
     pub composed_says : (x : Result (Unit {0}) Refusal) → says_done x ≡ answer m a (add r) → x ≡ as_result (or_else (compose_refusal k ps price) (add_refusal a (composed k ps t price)))
     composed_says x h = said x (add_refusal a r.row) h ∙ ap as_result ground
 
     pub composed_leaves : after m a (add r) ≡ unless_refused (or_else (compose_refusal k ps price) (add_refusal a (composed k ps t price))) a (added m a k (composed k ps t price))
     composed_leaves =
-        left (add_refusal a r.row) ∙ ap (λ (w : Row). unless_refused (add_refusal a r.row) a (added m a w.kind w)) row_is
+        left (add_refusal a r.row) ∙ ap (λ (w : Row). unless_refused (add_refusal a r.row) a (added m a w.kind w)) is
         ∙ ap (λ (o : Option Refusal). unless_refused o a (added m a k (composed k ps t price))) ground

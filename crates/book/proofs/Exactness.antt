@@ -1,25 +1,20 @@
 -- What compose makes of parts that it accepts is exact, and so is a new rule.
-use Rattle.std.proofs.Common.{◌≡◌, ℕ, zero, suc, ◌-◌, ◌≤◌, true, false, not, ◌&&◌, ◌||◌, eqb, ltb, leb, List, ◌++◌, length, drop, replicate, None, refl, ap, ◌∙◌}
+use Rattle.std.proofs.lemmas.Grind.{common_steps}
+use Rattle.std.proofs.Common.{arith}
+use Rattle.std.proofs.Common.{◌≡◌, ℕ, zero, suc, ◌-◌, ◌≤◌, true, false, ◌&&◌, ◌||◌, eqb, ltb, leb, List, ◌++◌, length, drop, replicate, None, refl, ap, ◌∙◌}
 use lib.Seq.{drop-append_seam}
-use Rattle.std.proofs.lemmas.Bool.{and_parts, le-leb, ltb-false}
+use Rattle.std.proofs.lemmas.Bool.{le-leb, ltb-false}
 use Rattle.measure.specs.declared.price.Price.{Price}
-use Rattle.rules.specs.Compose.{ascends, compose_refusal, composed, blank, blanks, in_range, is_activate, is_exact, is_free, is_price}
-use Rattle.rules.specs.Refusals.{when, or_else}
+use Rattle.rules.specs.Compose.{compose_refusal, composed, blank, blanks, in_range, is_activate, is_exact, is_free, is_price}
 use Rattle.rules.specs.declared.literal.Literal.{Literal}
-use Rattle.rules.specs.declared.refusal.Refusal.TheVariants.{PairCount, NotAscending, CentsTooLarge}
 use Rattle.rules.specs.declared.row.Kind.{Kind}
 use Rattle.rules.specs.declared.row.Kind.TheVariants.{Forbid, Activate, Price as Priced}
 use Rattle.rules.specs.declared.row.Row.{Row}
-use Rattle.rules.proofs.Grounds.{when_none, or_else_none}
 use Rattle.book.specs.Laws.{ComposedIsExact}
 
 -- the cents of a price rule that is accepted are in range
 accepted_cents : (k : Kind) (ps : List Literal) (price : Price) → compose_refusal k ps price ≡ None → (is_price k && ltb 1000000000 price.cents) ≡ false
-accepted_cents k ps price h =
-    let cents = when (is_price k && ltb 1000000000 price.cents) CentsTooLarge in
-    let order = when (not (ascends ps)) NotAscending in
-    let count = when (not (leb 1 (length ps) && leb (length ps) 4)) PairCount in
-    when_none (is_price k && ltb 1000000000 price.cents) CentsTooLarge (or_else_none order cents (or_else_none count (or_else order cents) h).1).1
+accepted_cents k ps price h = grind (arith, common_steps)
 
 blank_copies : (n : ℕ) → blanks (replicate n blank) ≡ true
 blank_copies zero = refl
@@ -46,13 +41,4 @@ composed_is_exact = (refl, composed_exact)
 -- what an exact row keeps: a target and a price in range, and only what its kind has
 pub exact_parts : (r : Row) → is_exact r ≡ true → (leb r.target 255 ≡ true) × (in_range r.price ≡ true) × ((is_activate r.kind || eqb r.target 0) ≡ true) × ((is_price r.kind || is_free r.price) ≡ true)
 unfolding is_exact
-exact_parts r h =
-    let low = leb r.target 255 in
-    let range = in_range r.price in
-    let aimed = is_activate r.kind || eqb r.target 0 in
-    let priced = is_price r.kind || is_free r.price in
-    let front = and_parts (low && range && aimed && priced) (blanks (drop r.count r.pairs)) h in
-    let fore = and_parts (low && range && aimed) priced front.0 in
-    let ranges = and_parts (low && range) aimed fore.0 in
-    let first = and_parts low range ranges.0 in
-    (first.0, first.1, ranges.1, fore.1)
+exact_parts r h = grind (arith, common_steps)

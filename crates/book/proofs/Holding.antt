@@ -1,4 +1,5 @@
 -- What a list of calls from an opening leaves held: rules, and adding those again makes the same book.
+use Rattle.std.proofs.lemmas.Grind.{common_steps}
 use Rattle.std.proofs.Common.{◌≡◌, ℕ, suc, ◌+◌, ◌<◌, ◌≤◌, false, leb, List, [], ◌∷◌, ◌++◌, map, length, take, drop, Some, None, Option, sym, refl, ap, ◌∙◌, subst, arith, length-append, length-drop, length-take}
 use mathlib.Core.List.{map-append}
 use lib.ListN.{length-map}
@@ -194,15 +195,7 @@ rules_of ds b h = (h.by_kind Forbid).rules ++ ((h.by_kind Activate).rules ++ (h.
 
 -- their rows are the book's
 pub rows_are : (ds : List Decision) (b : Book) (h : Holds ds b) → map row_of (rules_of ds b h) ≡ rows_of b
-rows_are ds b h =
-    let fs = h.by_kind Forbid in
-    let gs = h.by_kind Activate in
-    let ps = h.by_kind Price in
-    map-append row_of fs.rules (gs.rules ++ ps.rules)
-    ∙ ap (λ (rows : List Row). map row_of fs.rules ++ rows) (map-append row_of gs.rules ps.rules)
-    ∙ ap (λ (rows : List Row). rows ++ (map row_of gs.rules ++ map row_of ps.rules)) fs.rows_are
-    ∙ ap (λ (rows : List Row). b.forbids ++ (rows ++ map row_of ps.rules)) gs.rows_are
-    ∙ ap (λ (rows : List Row). b.forbids ++ (b.activates ++ rows)) ps.rows_are
+rows_are ds b h = grind (arith, common_steps)
 
 -- what holds of every allowed rule holds of all that are held
 pub all_rules : (ds : List Decision) (b : Book) (h : Holds ds b) (P : Rule → Type 0) → ((k : Kind) (r : Rule) → Allowed ds k r → P r) → AllByRecursion P (rules_of ds b h)
@@ -215,11 +208,7 @@ all_rules ds b h P each =
 
 -- there are at most three tables of them
 pub rules_few : (ds : List Decision) (b : Book) (h : Holds ds b) → length (rules_of ds b h) ≤ 768
-rules_few ds b h =
-    let fs = h.by_kind Forbid in
-    let gs = h.by_kind Activate in
-    let ps = h.by_kind Price in
-    omega (arith, length-append fs.rules (gs.rules ++ ps.rules), length-append gs.rules ps.rules, fs.few, gs.few, ps.few)
+rules_few ds b h = grind (arith, common_steps)
 
 same_books : (ds es : List Decision) (ws xs us vs ps qs : List Row) → ds ≡ es → ws ≡ xs → us ≡ vs → ps ≡ qs
     → ◌≡◌ {A = Book} (record { decisions = ds; forbids = ws; activates = us; prices = ps }) (record { decisions = es; forbids = xs; activates = vs; prices = qs })

@@ -1,5 +1,7 @@
 -- What one line does where lines are loaded.
-use Rattle.std.proofs.Common.{◌≡◌, ℕ, Bool, true, false, ◌&&◌, ◌||◌, List, ◌∷◌, Some, None, Ok, Option, Result, sym, refl, ap, ◌∙◌}
+use Rattle.std.proofs.lemmas.Grind.{common_steps}
+use Rattle.std.proofs.Common.{arith}
+use Rattle.std.proofs.Common.{◌≡◌, ℕ, Bool, true, false, ◌&&◌, ◌||◌, List, ◌∷◌, Some, None, Ok, Option, Result, sym, refl, ◌∙◌}
 use Rattle.std.specs.Option.{option_map}
 use Rattle.measure.specs.Meaning.{Meaning}
 use Rattle.rules.specs.declared.refusal.Refusal.{Refusal}
@@ -21,9 +23,7 @@ module _ {C : Type 0} (m : Meaning C) where
   -- a line that states s, and those behind it
   pub load_stated : (began : Bool) (a : Account C) (l : TextLine) (ls : List TextLine) (s : Stated) → read_line began l ≡ Ok s → load_lines m began a (l ∷ ls) ≡ unless (option_map (λ (e : Refusal). fault e l.number 1) (statement_refusal a s)) (load_lines m (began || is_rule s) (carried m a s) ls)
   unfolding load_lines
-  load_stated began a l ls s e =
-      ap (λ (r : Result Stated Fault). then r (λ s. then (obeyed m l.number a s) (λ b. load_lines m (began || is_rule s) b ls))) e
-      ∙ then_unless (option_map (λ (e : Refusal). fault e l.number 1) (statement_refusal a s)) (carried m a s) (λ b. load_lines m (began || is_rule s) b ls)
+  load_stated began a l ls s e = grind (arith, common_steps)
 
   -- the line of an s that fits, and those behind it
   pub load_text : (began : Bool) (a : Account C) (n : ℕ) (ls : List TextLine) (s : Stated) → fitting s ≡ true → (began && is_decided s) ≡ false → load_lines m began a (record { bytes = line_text s; number = n; ended = true } ∷ ls) ≡ unless (option_map (λ (e : Refusal). fault e n 1) (statement_refusal a s)) (load_lines m (began || is_rule s) (carried m a s) ls)

@@ -1,4 +1,6 @@
 -- Loading a text, line by line.
+use Rattle.std.proofs.lemmas.Grind.{common_steps}
+use Rattle.std.proofs.Common.{arith}
 use Rattle.std.proofs.Common.{◌≡◌, ℕ, ◌<◌, ◌≤◌, Bool, true, false, ◌||◌, ltb, List, [], ◌∷◌, length, is_err, Some, None, Ok, Err, Option, Result, sym, refl, ap, ◌∙◌}
 use Rattle.std.specs.Option.{option_map}
 use Rattle.std.proofs.lemmas.Bool.{cond-false, cond-true, false≢true, le-ltb, lt-ltb, true≢false}
@@ -13,7 +15,10 @@ use Rattle.statements.specs.Views.{on_ok}
 use Rattle.statements.specs.declared.fault.Fault.{Fault}
 use Rattle.book.specs.Loads.{carried, is_rule, left_by, load_lines, loaded, obeyed, statement_refusal, verdict}
 use Rattle.book.specs.Steps.{line_step}
-use Rattle.book.proofs.Carries.{no_first}
+
+no_ground : (o : Option Refusal) (u : Unit {0}) → Ok u ≡ as_result o → o ≡ None
+no_ground (Some e) u h = cc
+no_ground None u h = refl
 
 module _ {C : Type 0} (m : Meaning C) (began : Bool) (a : Account C) (l : TextLine) where
   -- the rest of a line's step, once it is read
@@ -38,7 +43,7 @@ module _ {C : Type 0} (m : Meaning C) (began : Bool) (a : Account C) (l : TextLi
 
   pub line_done : (s : Stated) (u : Unit {0}) (t : Bool) (b : Account C) → Ok s ≡ read_line began l → Ok u ≡ as_result (statement_refusal a s) → b ≡ unless_refused (statement_refusal a s) a (carried m a s) → t ≡ (began || is_rule s) → Ok (t, b) ≡ line_step m began a l
   line_done s u t b h k e f =
-      let none = no_first (statement_refusal a s) u k in
+      let none = no_ground (statement_refusal a s) u k in
       let is : b ≡ carried m a s = e ∙ ap (λ (o : Option Refusal). unless_refused o a (carried m a s)) none in
       sym
       (line_read s (sym h)
@@ -52,15 +57,7 @@ module _ {C : Type 0} (m : Meaning C) (began : Bool) (a : Account C) (l : TextLi
 
     one_line : load_lines m began a (l ∷ rest) ≡ then (line_step m began a l) gone_on
     unfolding load_lines line_step
-    one_line = by_reading (read_line began l)
-      where
-        by_carrying : (s : Stated) (x : Result (Account C) Fault) → then x (λ b. load_lines m (began || is_rule s) b rest) ≡ then (then x (λ b. Ok (began || is_rule s, b))) gone_on
-        by_carrying s (Ok b) = refl
-        by_carrying s (Err e) = refl
-
-        by_reading : (r : Result Stated Fault) → then r (λ s. then (obeyed m l.number a s) (λ b. load_lines m (began || is_rule s) b rest)) ≡ then (then r carried_on) gone_on
-        by_reading (Ok s) = by_carrying s (obeyed m l.number a s)
-        by_reading (Err e) = refl
+    one_line = grind (arith, common_steps)
 
     pub lines_stop : (ls : List TextLine) (e : Fault) → ls ≡ l ∷ rest → line_step m began a l ≡ Err e → load_lines m began a ls ≡ Err e
     lines_stop ls e is h = ap (load_lines m began a) is ∙ one_line ∙ ap (λ (x : Result (Bool × Account C) Fault). then x gone_on) h
@@ -73,23 +70,43 @@ module _ {C : Type 0} (m : Meaning C) where
   unfolding load_lines
   lines_end began a ls e = ap (load_lines m began a) e
 
-  pub too_large : (text : List ℕ) → 65536 < length text → loaded m text ≡ Err (fault BookTooLarge 1 1)
+  module _ (text : List ℕ) (large : 65536 < length text) where
+    too_large : loaded m text ≡ Err (fault BookTooLarge 1 1)
+    unfolding loaded
+    too_large = cond-true (ltb 65536 (length text)) _ _ (lt-ltb 65536 (length text) large)
+
+    pub large_verdict : Err (fault BookTooLarge 1 1) ≡ verdict (loaded m text)
+    large_verdict = sym (ap verdict too_large)
+
+    pub large_left : fresh [] ≡ left_by (loaded m text)
+    large_left = sym (ap left_by too_large)
+
+  pub small_enough : (text : List ℕ) → length text ≤ 65536 → loaded m text ≡ load_lines m false (fresh []) (lines_of text)
   unfolding loaded
-  too_large text h = cond-true (ltb 65536 (length text)) _ _ (lt-ltb 65536 (length text) h)
+  small_enough text h = cond-false (ltb 65536 (length text)) _ _ (le-ltb 65536 (length text) h)
 
-  pub small_enough : (text : List ℕ) (a : Account C) → length text ≤ 65536 → a ≡ fresh [] → loaded m text ≡ load_lines m false a (lines_of text)
-  unfolding loaded
-  small_enough text a h e = cond-false (ltb 65536 (length text)) _ _ (le-ltb 65536 (length text) h) ∙ ap (λ (x : Account C). load_lines m false x (lines_of text)) (sym e)
+  -- a load's answer, and what it leaves, by the result of its lines
+  module _ (text : List ℕ) (a b : Account C) (r : Result (Unit {0}) Fault) (lines : on_ok (λ u. b) r ≡ load_lines m false a (lines_of text)) (clear : a ≡ fresh []) (small : length text ≤ 65536) where
+    loaded_is : on_ok (λ u. b) r ≡ loaded m text
+    loaded_is = lines ∙ ap (λ (x : Account C). load_lines m false x (lines_of text)) clear ∙ sym (small_enough text small)
 
--- a load's answer, and what it leaves, by the result of its lines
-pub verdict_of : {C : Type 0} (b : Account C) (r : Result (Unit {0}) Fault) → r ≡ verdict (on_ok (λ u. b) r)
-verdict_of b (Ok u) = refl
-verdict_of b (Err e) = refl
+    pub lines_verdict : r ≡ verdict (loaded m text)
+    lines_verdict = by_result r ∙ ap verdict loaded_is
+      where
+        by_result : (x : Result (Unit {0}) Fault) → x ≡ verdict (on_ok (λ u. b) x)
+        by_result (Ok u) = refl
+        by_result (Err e) = refl
 
-pub left_refused : {C : Type 0} (b : Account C) (r : Result (Unit {0}) Fault) → is_err r ≡ true → fresh [] ≡ left_by (on_ok (λ u. b) r)
-left_refused b (Ok u) h = absurd (false≢true h)
-left_refused b (Err e) h = refl
+    pub refused_left : is_err r ≡ true → fresh [] ≡ left_by (loaded m text)
+    refused_left h = by_result r h ∙ ap left_by loaded_is
+      where
+        by_result : (x : Result (Unit {0}) Fault) → is_err x ≡ true → fresh [] ≡ left_by (on_ok (λ u. b) x)
+        by_result (Ok u) h = absurd (false≢true h)
+        by_result (Err e) h = refl
 
-pub left_accepted : {C : Type 0} (b : Account C) (r : Result (Unit {0}) Fault) → is_err r ≡ false → b ≡ left_by (on_ok (λ u. b) r)
-left_accepted b (Ok u) h = refl
-left_accepted b (Err e) h = absurd (true≢false h)
+    pub accepted_left : is_err r ≡ false → b ≡ left_by (loaded m text)
+    accepted_left h = by_result r h ∙ ap left_by loaded_is
+      where
+        by_result : (x : Result (Unit {0}) Fault) → is_err x ≡ false → b ≡ left_by (on_ok (λ u. b) x)
+        by_result (Ok u) h = refl
+        by_result (Err e) h = absurd (true≢false h)

@@ -1,39 +1,30 @@
 -- What is written of a planner is loaded as the same decisions and rules, if a text is loaded as its calls.
-use Rattle.std.proofs.Common.{◌≡◌, ℕ, ◌+◌, true, List, [], ◌∷◌, ◌++◌, map, length, None, Ok, Option, sym, refl, ap, ◌∙◌, subst, ap₂, arith, length-append}
+use Rattle.std.proofs.lemmas.Grind.{common_steps}
+use Rattle.std.proofs.Common.{◌≡◌, ℕ, ◌+◌, List, [], ◌∷◌, ◌++◌, map, length, None, Ok, Option, sym, refl, ap, ◌∙◌, subst, ap₂, arith}
 use Rattle.std.proofs.lemmas.List.{append_assoc}
-use Rattle.std.proofs.lemmas.Bool.{and_from, and_parts, le-ltb}
 use Rattle.std.specs.Option.{option_map}
 use Rattle.measure.specs.Meaning.{Meaning}
-use Rattle.rules.specs.Judging.{has_size, sized, open_refusal}
+use Rattle.rules.specs.Judging.{open_refusal}
 use Rattle.rules.specs.Plans.{Book}
 use Rattle.rules.specs.Refusals.{or_else}
 use Rattle.rules.specs.declared.decision.Decision.{Decision}
 use Rattle.rules.specs.declared.refusal.Refusal.{Refusal}
 use Rattle.rules.specs.declared.rule.Rule.{Rule}
-use Rattle.rules.proofs.Verdicts.{accepted_few}
 use Rattle.account.specs.Accounts.{Account, fresh}
 use Rattle.account.specs.Calls.{add, after_if, history, refusal}
 use Rattle.rendering.specs.Texts.{book_text}
 use Rattle.statements.specs.Statements.{fault, unless}
 use Rattle.statements.specs.declared.fault.Fault.{Fault}
-use Rattle.book.specs.Laws.{Accepted, AgreesWithCalls, LoadsBack, added_from, opened_from, rows_of, stated_by}
+use Rattle.book.specs.Laws.{Accepted, LoadsBack, added_from, opened_from, rows_of, stated_by}
 use Rattle.book.specs.Loads.{loaded}
-use Rattle.book.proofs.Fitting.{accepted_sized, sizes_fit}
+use Rattle.book.proofs.Agreeing.{agrees}
+use Rattle.book.proofs.Fitting.{sizes_fit}
 use Rattle.book.proofs.Holding.{Holds, adds_again, calls_hold, rows_are, rules_of}
 use Rattle.book.proofs.Sizes.{held_exact, held_fits, held_short}
 
-sized_front : (ds es : List Decision) → sized (ds ++ es) ≡ true → sized ds ≡ true
-sized_front [] es h = refl
-sized_front (d ∷ ds) es h =
-    let (here, later) = and_parts (has_size d) (sized (ds ++ es)) h in
-    and_from (has_size d) (sized ds) here (sized_front ds es later)
-
 -- the first of accepted decisions are accepted
 pub front_accepted : (ds es : List Decision) → open_refusal (ds ++ es) ≡ None → open_refusal ds ≡ None
-front_accepted ds es h =
-    let few = le-ltb 64 (length ds) (omega (arith, accepted_few (ds ++ es) h, length-append ds es)) in
-    let sizes = sized_front ds es (accepted_sized (ds ++ es) h) in
-    rw (few, sizes) refl
+front_accepted ds es h = grind (arith, common_steps)
 
 module _ {C : Type 0} (m : Meaning C) where
   -- accepted decisions are opened one by one
@@ -52,17 +43,17 @@ module _ {C : Type 0} (m : Meaning C) where
       ∙ added_ok (n + 1) (after_if m a (add r) (refusal a (add r))) rs h.1
 
   -- the text of a book that is held is loaded as a planner of the same book
-  pub held_loads : ((text : List ℕ) → AgreesWithCalls m text) → (ds : List Decision) (b : Book) → open_refusal ds ≡ None → Holds ds b
+  pub held_loads : (ds : List Decision) (b : Book) → open_refusal ds ≡ None → Holds ds b
       → (a : Account C) × (loaded m (book_text b.decisions (rows_of b)) ≡ Ok a) × (a.book ≡ b)
-  held_loads agrees ds b opens h =
+  held_loads ds b opens h =
       let rs = rules_of ds b h in
       let adds = adds_again m ds b h in
       let same : book_text b.decisions (rows_of b) ≡ stated_by ds rs = ap₂ book_text h.decisions_are (sym (rows_are ds b h)) in
-      let loads : loaded m (stated_by ds rs) ≡ Ok (history m (fresh ds) (map add rs)) = agrees (stated_by ds rs) ds rs refl (held_short ds b opens h) (sizes_fit ds opens) (held_fits ds b opens h) (held_exact ds b h)
+      let loads : loaded m (stated_by ds rs) ≡ Ok (history m (fresh ds) (map add rs)) = agrees m (stated_by ds rs) ds rs refl (held_short ds b opens h) (sizes_fit ds opens) (held_fits ds b opens h) (held_exact ds b h)
       ∙ ap (λ (o : Option Fault). unless o (added_from m (length ds + 1) (fresh ds) rs)) (opened_none 1 [] ds opens)
       ∙ added_ok (length ds + 1) (fresh ds) rs adds.accepted in
       (history m (fresh ds) (map add rs), ap (loaded m) same ∙ loads, adds.book_is)
 
   -- so is what is written of a planner, whatever was called on it
-  pub loads_back : ((text : List ℕ) → AgreesWithCalls m text) → LoadsBack m
-  loads_back agrees ds opens calls exact = held_loads agrees ds (history m (fresh ds) calls).book opens (calls_hold m ds calls exact)
+  pub loads_back : LoadsBack m
+  loads_back ds opens calls exact = held_loads ds (history m (fresh ds) calls).book opens (calls_hold m ds calls exact)

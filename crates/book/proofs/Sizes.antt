@@ -1,5 +1,5 @@
 -- The text of what a planner holds is short enough to be loaded.
-use Rattle.std.proofs.Common.{◌≡◌, ℕ, ◌*◌, ◌<◌, ◌≤◌, Bool, true, false, leb, List, [], ◌∷◌, ◌++◌, map, length, None, decimal, subst, add-mul, arith, length-append, length-take}
+use Rattle.std.proofs.Common.{◌≡◌, ℕ, ◌*◌, ◌<◌, ◌≤◌, Bool, true, false, leb, List, [], ◌∷◌, ◌++◌, map, length, None, decimal, add-mul, arith, length-append, length-take}
 use lib.ListN.{length-map}
 use Rattle.std.proofs.lemmas.Fmt.{length-decimal-le}
 use Rattle.std.proofs.ByRecursion.{All-append, All-map, All-weaker}
@@ -17,11 +17,11 @@ use Rattle.rules.specs.declared.row.Kind.TheVariants.{Forbid, Activate, Price as
 use Rattle.rules.specs.declared.row.Row.{Row}
 use Rattle.rules.specs.declared.rule.Rule.{Rule}
 use Rattle.rules.proofs.Verdicts.{accepted_few}
-use Rattle.rendering.specs.Texts.{spaced, ended, pair_text, mark_text, head_fields, decision_line, parts_line, rule_line, book_text}
-use Rattle.book.specs.Laws.{ByteSized, BytePaired, IsExact, rows_of, stated_by}
+use Rattle.rendering.specs.Texts.{spaced, ended, pair_text, mark_text, head_fields, decision_line, parts_line, rule_line}
+use Rattle.book.specs.Laws.{ByteSized, BytePaired, IsExact, stated_by}
 use Rattle.book.proofs.Exactness.{exact_parts}
 use Rattle.book.proofs.Fitting.{sizes_fit, rule_fits}
-use Rattle.book.proofs.Holding.{Holds, all_rules, rows_are, rules_few, rules_of}
+use Rattle.book.proofs.Holding.{Holds, all_rules, rules_few, rules_of}
 
 -- a line or a field of fewer than n bytes
 abbrev pub Shorter : ℕ → List ℕ → Type 0
@@ -107,6 +107,3 @@ held_exact ds b h = all_rules ds b h IsExact (λ k r one. one.exact)
 -- so the text of what is held is short
 pub held_short : (ds : List Decision) (b : Book) → open_refusal ds ≡ None → (h : Holds ds b) → length (stated_by ds (rules_of ds b h)) ≤ 65536
 held_short ds b opens h = stated_short ds (rules_of ds b h) (accepted_few ds opens) (rules_few ds b h) (sizes_fit ds opens) (held_fits ds b opens h) (held_exact ds b h)
-
-pub book_short : (ds : List Decision) (b : Book) → open_refusal ds ≡ None → Holds ds b → length (book_text ds (rows_of b)) ≤ 65536
-book_short ds b opens h = subst (λ (rows : List Row). length (book_text ds rows) ≤ 65536) (rows_are ds b h) (held_short ds b opens h)

@@ -1,5 +1,7 @@
 -- A text that is accepted states decisions and rules: it is read as those.
-use Rattle.std.proofs.Common.{◌≡◌, ℕ, Bool, true, false, cond, ltb, List, [], ◌∷◌, ◌++◌, map, length, None, Ok, Err, Result, sym, refl, ap, ◌∙◌, subst, append_assoc, append-nil}
+use Rattle.std.proofs.lemmas.Grind.{common_steps}
+use Rattle.std.proofs.Common.{arith}
+use Rattle.std.proofs.Common.{◌≡◌, ℕ, Bool, true, false, cond, ltb, List, [], ◌∷◌, ◌++◌, map, length, None, Ok, Err, Result, sym, refl, ap, ◌∙◌, subst, append-nil}
 use Rattle.std.proofs.lemmas.Bool.{and_from, true≢false}
 use Rattle.std.specs.List.{AllByRecursion}
 use Rattle.measure.specs.Meaning.{Meaning}
@@ -115,18 +117,7 @@ module _ {C : Type 0} (m : Meaning C) where
       }
 
   decision_first : (l : TextLine) (ls : List TextLine) (before : List Decision) (b : Account C) (d : Decision) → l.bytes ≡ decision_line d → l.ended ≡ true → Opening ls (before ++ d ∷ []) b → Opening (l ∷ ls) before b
-  decision_first l ls before b d bytes end rest =
-      let same : (before ++ d ∷ []) ++ rest.decided ≡ before ++ d ∷ rest.decided = append_assoc before (d ∷ []) rest.decided in
-      record {
-        decided = d ∷ rest.decided;
-        stated = rest.stated;
-        lines_are = joined _ _ _ _ bytes rest.lines_are;
-        are_ended = and_from l.ended (all_ended ls) end rest.are_ended;
-        exact = rest.exact;
-        opens = ap open_refusal (sym same) ∙ rest.opens;
-        adds = subst (λ (ds : List Decision). Accepted m (fresh ds) (map add rest.stated)) same rest.adds;
-        account_is = rest.account_is ∙ ap (λ (ds : List Decision). history m (fresh ds) (map add rest.stated)) same;
-      }
+  decision_first l ls before b d bytes end rest = grind (arith, common_steps)
 
   opening_next : (l : TextLine) (ls : List TextLine) (before : List Decision) (b : Account C) → open_refusal before ≡ None → ((es : List Decision) → open_refusal es ≡ None → load_lines m false (fresh es) ls ≡ Ok b → Opening ls es b) → (s : Stated) → Obeyed m false (fresh before) l ls b s → Opening (l ∷ ls) before b
   opening_next l ls before b started later (decides d) o = decision_first l ls before b d o.bytes_are o.is_ended (later (before ++ d ∷ []) o.accepted o.rest)

@@ -13,11 +13,11 @@ ghost use Rattle.book.specs.Loads.{carried, is_rule, statement_refusal};
 use arrayvec::ArrayVec;
 use measure::Measure;
 use planner::Planner;
-use rules::{Decision, Refusal, Rule};
+use rules::{Decision, MOST_DECISIONS, Refusal, Rule};
 use statements::{Parts, Statement};
 
 /// Room for one decision more than a planner has.
-const ROOM: usize = 65;
+const ROOM: usize = MOST_DECISIONS + 1;
 
 /// Opens a planner over its decisions and one more.
 fn open_with<M: Measure>(planner: &mut Planner<M>, decision: Decision) -> Result<(), Refusal>
@@ -37,20 +37,15 @@ fn add_rule<M: Measure>(planner: &mut Planner<M>, parts: &Parts) -> Result<(), R
     ensures value { result ≡ as_result (or_else (compose_refusal parts.now.kind (pairs_of parts.now.pairs) parts.now.price) (add_refusal (account_of planner.old) (composed parts.now.kind (pairs_of parts.now.pairs) parts.now.target parts.now.price))) }
     ensures after { account_of planner.new ≡ unless_refused (or_else (compose_refusal parts.now.kind (pairs_of parts.now.pairs) parts.now.price) (add_refusal (account_of planner.old) (composed parts.now.kind (pairs_of parts.now.pairs) parts.now.target parts.now.price))) (account_of planner.old) (added M.meaning (account_of planner.old) parts.now.kind (composed parts.now.kind (pairs_of parts.now.pairs) parts.now.target parts.now.price)) }
 {
-    let mut rule = Rule::new();
-    rule.compose(
-        parts.kind,
-        parts.pairs.as_slice(),
-        parts.target,
-        parts.price,
-    )?;
-    planner.add(&rule)
+    let pairs = parts.pairs.as_slice();
+    planner.add(&Rule::of(parts.kind, pairs, parts.target, parts.price)?)
 }
 
 /// Whether a rule line has come by now, this statement's line counted.
 pub fn has_begun(began: bool, statement: &Statement) -> bool
     ensures { result ≡ (began || is_rule (stated_of statement.now)) }
 {
+    // `matches!`: which variant it is decides, and a comparison would want a rule to compare with.
     began || matches!(statement, Statement::Rule(_))
 }
 

@@ -15,7 +15,7 @@ use rules::Refusal;
 use statements::{Fault, Line, Lines, read_line};
 
 /// The most bytes that a book may have.
-const MOST_BYTES: usize = 65_536;
+pub const MOST_BYTES: usize = 65_536;
 
 /// Reads a line and carries out what it states. `began` is whether a rule line came before; the answer, whether one has
 /// come by now.
@@ -45,13 +45,15 @@ fn load_lines<M: Measure>(planner: &mut Planner<M>, text: &[u8]) -> Result<(), F
 fn clear<M: Measure>(planner: &mut Planner<M>)
     ensures { account_of planner.new ≡ fresh [] }
 {
-    let _ = planner.open(&[]);
+    planner.open(&[]).unwrap();
 }
 
-/// Makes a planner one over the decisions that a text states, with the rules that it states, as open and then an add for
-/// each rule line would. Refuses with the fault of the text, by number, line and column; the planner is then one over no
-/// decisions. A text that is accepted is the text of its decisions and rules and of nothing else, and every text of
-/// decisions and of rules that new and compose make is loaded as open and the adds would have it, their refusals too.
+/// Makes a planner one over the decisions that a text states, with the rules that it states, as open and then an add
+/// for each rule line would. Refuses with the fault of the text, by number, line and column; the planner is then one
+/// over no decisions. A text that is accepted is the text of its decisions and rules and of nothing else, and every
+/// text of decisions and of rules that new and compose make is loaded as open and the adds would have it, their
+/// refusals too.
+#[tactic(auto, using(crate::proofs::Agreeing::agrees, crate::proofs::LoadSteps::large_left, crate::proofs::LoadSteps::large_verdict, crate::proofs::Stating::read_as_stated))]
 pub fn load<M: Measure>(planner: &mut Planner<M>, text: &[u8]) -> Result<(), Fault>
     ensures value { result ≡ verdict (loaded M.meaning text.now) }
     ensures after { account_of planner.new ≡ left_by (loaded M.meaning text.now) }

@@ -7,14 +7,11 @@ ghost use Rattle.book.specs.Outcomes.{account_text};
 use measure::TierThenCents;
 use planner::Planner;
 use rendering::{Outcome, Text};
-use rules::Refusal;
-
-/// The most decisions that a planner has.
-const MOST_DECISIONS: usize = 64;
+use rules::{MOST_DECISIONS, Refusal};
 
 /// Writes the text of what a planner has come to: its state, and if a best is held its tier and cents, and the number
-/// and value of each active decision, a line each. Answers the byte count; later bytes stay. Refuses a buffer that is too
-/// short, which then stays as it was.
+/// and value of each active decision, a line each. Answers the byte count; later bytes stay. Refuses a buffer that is
+/// too short, which then stays as it was.
 pub fn write_outcome(planner: &Planner<TierThenCents>, buffer: &mut [u8]) -> Result<usize, Refusal>
     ensures value { result ≡ counted (account_text (account_of planner.now)) buffer.old }
     ensures after { buffer.new ≡ filled (account_text (account_of planner.now)) buffer.old }

@@ -14,16 +14,15 @@ use rules::Refusal;
 /// How many runs planning a book makes.
 const RUNS: u32 = 100;
 
-/// The steps of each run.
+/// The steps of each run, fewer than a run may be given.
 const STEPS: u32 = 100_000;
 
-/// Makes so many runs of so many steps each.
-#[tactic(auto, using(crate::proofs::Running::no_runs, crate::proofs::Running::one_run))]
-fn run_long(planner: &mut Planner<TierThenCents>, runs: u32, steps: u32)
-    ensures { account_of planner.new ≡ after_runs (pair_of tier cents) runs steps (account_of planner.old) }
+/// Makes the runs that planning a book makes.
+fn run_long(planner: &mut Planner<TierThenCents>)
+    ensures { account_of planner.new ≡ after_runs (pair_of tier cents) 100 100000 (account_of planner.old) }
 {
-    for made in 0..runs {
-        let _ = planner.run(steps);
+    for made in 0..RUNS {
+        planner.run(STEPS).unwrap();
     }
 }
 
@@ -40,7 +39,7 @@ pub fn plan_book(
 {
     match load(planner, text) {
         Ok(()) => {
-            run_long(planner, RUNS, STEPS);
+            run_long(planner);
             write_outcome(planner, buffer)
         }
         Err(fault) => write_fault(&fault, buffer),

@@ -1,5 +1,5 @@
-//! A call of a planner, and a line of what is called and answered.
-ghost use Rattle.std.specs.Prelude.{◌≡◌};
+//! Calls of a planner, and a line of what is called and answered.
+ghost use Rattle.std.specs.Prelude.{◌≡◌, []};
 ghost use Rattle.account.specs.Accounts.{fresh};
 ghost use Rattle.account.specs.Calls.{add as add_call, after, run as run_call, withdraw as withdraw_call};
 ghost use Rattle.planner.specs.Planners.{account_of};
@@ -15,48 +15,53 @@ use showing::{Answer, done};
 use std::fmt::Display;
 use std::io;
 
-/// Opens a planner over decisions, which the line tells as `what`.
-pub fn open<M: Measure>(
-    rt: &impl Print,
-    planner: &mut Planner<M>,
-    what: impl Display + Copy,
-    decisions: &[Decision],
-) -> io::Result<()>
-    ensures { account_of planner.new ≡ unless_refused (open_refusal decisions.now) (account_of planner.old) (fresh decisions.now) }
-{
-    let answer = done(planner.open(decisions));
-    println!(rt; "open {what}: {answer}")
+/// A planner, and the handle by which the calls on it are printed.
+#[derive(Drop)]
+pub struct Calls<'a, P, M> {
+    pub rt: &'a P,
+    pub planner: Planner<M>,
 }
 
-/// Adds a rule, which the line tells as `what`.
-pub fn add<M: Measure>(
-    rt: &impl Print,
-    planner: &mut Planner<M>,
-    what: impl Display + Copy,
-    rule: &Rule,
-) -> io::Result<()>
-    ensures { account_of planner.new ≡ after M.meaning (account_of planner.old) (add_call rule.now) }
-{
-    let answer = done(planner.add(rule));
-    println!(rt; "add {what}: {answer}")
-}
+impl<'a, P: Print, M: Measure> Calls<'a, P, M> {
+    /// Of a planner over no decisions.
+    pub fn new(rt: &'a P) -> Calls<'a, P, M>
+        ensures { account_of result.planner ≡ fresh [] }
+    {
+        Calls {
+            rt,
+            planner: Planner::new(),
+        }
+    }
 
-/// Withdraws the price rule at a place.
-pub fn withdraw_price<M: Measure>(
-    rt: &impl Print,
-    planner: &mut Planner<M>,
-    place: usize,
-) -> io::Result<()>
-    ensures { account_of planner.new ≡ after M.meaning (account_of planner.old) (withdraw_call Priced place) }
-{
-    let answer = done(planner.withdraw(Kind::Price, place));
-    println!(rt; "withdraw price {place}: {answer}")
-}
+    /// Opens the planner over decisions, which the line tells as `what`.
+    pub fn open(&mut self, what: impl Display + Copy, decisions: &[Decision]) -> io::Result<()>
+        ensures { account_of self.new.planner ≡ unless_refused (open_refusal decisions.now) (account_of self.old.planner) (fresh decisions.now) }
+    {
+        let answer = done(self.planner.open(decisions));
+        println!(self.rt; "open {what}: {answer}")
+    }
 
-/// Runs with a budget.
-pub fn run<M: Measure>(rt: &impl Print, planner: &mut Planner<M>, budget: u32) -> io::Result<()>
-    ensures { account_of planner.new ≡ after M.meaning (account_of planner.old) (run_call budget) }
-{
-    let answer = Answer(planner.run(budget).map(Ran::from));
-    println!(rt; "run {budget}: {answer}")
+    /// Adds a rule, which the line tells as `what`.
+    pub fn add(&mut self, what: impl Display + Copy, rule: &Rule) -> io::Result<()>
+        ensures { account_of self.new.planner ≡ after M.meaning (account_of self.old.planner) (add_call rule.now) }
+    {
+        let answer = done(self.planner.add(rule));
+        println!(self.rt; "add {what}: {answer}")
+    }
+
+    /// Withdraws the price rule at a place.
+    pub fn withdraw_price(&mut self, place: usize) -> io::Result<()>
+        ensures { account_of self.new.planner ≡ after M.meaning (account_of self.old.planner) (withdraw_call Priced place) }
+    {
+        let answer = done(self.planner.withdraw(Kind::Price, place));
+        println!(self.rt; "withdraw price {place}: {answer}")
+    }
+
+    /// Runs with a budget.
+    pub fn run(&mut self, budget: u32) -> io::Result<()>
+        ensures { account_of self.new.planner ≡ after M.meaning (account_of self.old.planner) (run_call budget) }
+    {
+        let answer = Answer(self.planner.run(budget).map(Ran::from));
+        println!(self.rt; "run {budget}: {answer}")
+    }
 }

@@ -4,4 +4,4 @@
 mod calls;
 mod ran;
 
-pub use calls::{add, open, run, withdraw_price};
+pub use calls::Calls;

@@ -1,5 +1,5 @@
-//! Books in frames: a line with a length and a number of times, then so many bytes, which stand for a book that is these
-//! bytes so many times.
+//! Books in frames: a line with a length and a number of times, then so many bytes, which stand for a book that is
+//! these bytes so many times.
 ghost use Rattle.std.specs.Prelude.{◌≤◌, length};
 
 use reading::{number, split_once};
@@ -11,17 +11,21 @@ const MOST: u32 = 131_072;
 #[derive(Clone, Copy)]
 pub struct Frame<'a> {
     pub part: &'a [u8],
-    pub times: u32,
+    pub times: usize,
     pub rest: &'a [u8],
+}
+
+/// The number of at most `MOST` that a text states.
+fn stated(text: &[u8]) -> Option<usize> {
+    usize::try_from(number(text, MOST)?).ok()
 }
 
 /// The first frame of an input, if there is one.
 fn next_frame<'a>(input: &'a [u8]) -> Option<Frame<'a>> {
     let (header, body) = split_once(input, b'\n')?;
     let (length, times) = split_once(header, b' ')?;
-    let length = usize::try_from(number(length, MOST)?).ok()?;
-    let times = number(times, MOST)?;
-    let (part, rest) = body.split_at_checked(length)?;
+    let times = stated(times)?;
+    let (part, rest) = body.split_at_checked(stated(length)?)?;
     Some(Frame { part, times, rest })
 }
 
@@ -40,13 +44,13 @@ impl<'a> Iterator for Frames<'a> {
 }
 
 /// Puts a part so many times into a book, as long as there is room, and answers what it filled.
-pub fn repeat<'a>(part: &[u8], times: u32, book: &'a mut [u8]) -> &'a [u8]
+pub fn repeat<'a>(part: &[u8], times: usize, book: &'a mut [u8]) -> &'a [u8]
     ensures { length result.now ≤ length book.old }
 {
     if part.is_empty() {
         return &book[0..0];
     }
-    let count = (times as usize).min(book.len() / part.len());
+    let count = times.min(book.len() / part.len());
     let filled = &mut book[0..count * part.len()];
     for place in filled.chunks_exact_mut(part.len()) {
         place.copy_from_slice(part);

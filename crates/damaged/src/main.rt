@@ -2,7 +2,7 @@
 #![tactic(auto)]
 
 use anyhow::anyhow;
-use book::{load, write_fault};
+use book::{MOST_BYTES, load, write_fault};
 use frames::{Frames, repeat};
 use input::read_input;
 use measure::TierThenCents;
@@ -15,7 +15,7 @@ mod frames;
 const INPUT: usize = 131_072;
 
 /// Room for the largest book and one byte more.
-const BOOK: usize = 65_537;
+const BOOK: usize = MOST_BYTES + 1;
 
 /// The most frames that are read.
 const FRAMES: usize = 1_000;

@@ -1,85 +1,87 @@
 //! Runs, buffers and questions at their edges.
-use calling::run;
+use calling::Calls;
 use measure::Cents;
-use planner::Planner;
 use showing::{Answer, Spaced, done};
 use std::io;
 
 /// Asks for the best with a buffer, and prints what the buffer then holds.
-fn best(rt: &impl Print, planner: &Planner<Cents>, buffer: &mut [u8]) -> io::Result<()> {
+fn best(calls: &Calls<'_, impl Print, Cents>, buffer: &mut [u8]) -> io::Result<()> {
     let length = buffer.len();
-    let answer = planner.best(buffer);
+    let answer = calls.planner.best(buffer);
     let bytes = Spaced(buffer);
     match answer {
         Ok((state, Some(cost))) => {
-            println!(rt; "best into {length}: {state}, cost {cost}, [{bytes}]")
+            println!(calls.rt; "best into {length}: {state}, cost {cost}, [{bytes}]")
         }
-        Ok((state, None)) => println!(rt; "best into {length}: {state}, none, [{bytes}]"),
-        Err(refusal) => println!(rt; "best into {length}: {refusal}, [{bytes}]"),
+        Ok((state, None)) => println!(calls.rt; "best into {length}: {state}, none, [{bytes}]"),
+        Err(refusal) => println!(calls.rt; "best into {length}: {refusal}, [{bytes}]"),
     }
 }
 
 /// Budgets small and large, from an open planner to a settled one.
-pub fn budgets(rt: &impl Print, planner: &mut Planner<Cents>) -> io::Result<()> {
-    best(rt, planner, &mut [9; 2])?;
-    run(rt, planner, 0)?;
-    run(rt, planner, 1_000_001)?;
-    run(rt, planner, u32::MAX)?;
-    run(rt, planner, 1)?;
-    run(rt, planner, 1_000_000)?;
-    run(rt, planner, 1_000_000)
+pub fn budgets(calls: &mut Calls<'_, impl Print, Cents>) -> io::Result<()> {
+    best(calls, &mut [9; 2])?;
+    calls.run(0)?;
+    calls.run(1_000_001)?;
+    calls.run(u32::MAX)?;
+    calls.run(1)?;
+    calls.run(1_000_000)?;
+    calls.run(1_000_000)
 }
 
 /// Buffers that are one short, exact and longer.
-pub fn buffers(rt: &impl Print, planner: &Planner<Cents>) -> io::Result<()> {
-    best(rt, planner, &mut [])?;
-    best(rt, planner, &mut [9; 1])?;
-    best(rt, planner, &mut [9; 2])?;
-    best(rt, planner, &mut [9; 4])
+pub fn buffers(calls: &Calls<'_, impl Print, Cents>) -> io::Result<()> {
+    best(calls, &mut [])?;
+    best(calls, &mut [9; 1])?;
+    best(calls, &mut [9; 2])?;
+    best(calls, &mut [9; 4])
 }
 
-/// Asks for the exclusion of a value.
-fn exclusion(rt: &impl Print, planner: &Planner<Cents>, d: u8, value: u8) -> io::Result<()> {
-    match planner.exclusion(d, value) {
+/// Asks for the exclusion of a value, and prints the answer.
+fn exclusion(calls: &Calls<'_, impl Print, Cents>, d: u8, value: u8) -> io::Result<()> {
+    match calls.planner.exclusion(d, value) {
         Ok(Some((reason, resting))) => {
             let bits = reason.bits;
-            println!(rt; "exclusion {d}={value}: reason bits {bits}, resting {resting}")
+            println!(calls.rt; "exclusion {d}={value}: reason bits {bits}, resting {resting}")
         }
-        Ok(None) => println!(rt; "exclusion {d}={value}: none"),
-        Err(refusal) => println!(rt; "exclusion {d}={value}: {refusal}"),
+        Ok(None) => println!(calls.rt; "exclusion {d}={value}: none"),
+        Err(refusal) => println!(calls.rt; "exclusion {d}={value}: {refusal}"),
     }
 }
 
-/// Asks how many values of a decision are not excluded.
-fn unexcluded(rt: &impl Print, planner: &Planner<Cents>, d: u8) -> io::Result<()> {
-    println!(rt; "unexcluded of {d}: {}", Answer(planner.unexcluded(d)))
+/// Asks how many values of a decision are not excluded, and prints the answer.
+fn unexcluded(calls: &Calls<'_, impl Print, Cents>, d: u8) -> io::Result<()> {
+    println!(calls.rt;
+        "unexcluded of {d}: {}",
+        Answer(calls.planner.unexcluded(d))
+    )
 }
 
 /// Exclusions of values that there are and are not.
-pub fn questions(rt: &impl Print, planner: &Planner<Cents>) -> io::Result<()> {
-    exclusion(rt, planner, 0, 0)?;
-    exclusion(rt, planner, 0, 1)?;
-    exclusion(rt, planner, 0, 2)?;
-    exclusion(rt, planner, 0, 3)?;
-    exclusion(rt, planner, 1, 1)?;
-    exclusion(rt, planner, 1, 2)?;
-    exclusion(rt, planner, 2, 1)?;
-    exclusion(rt, planner, 2, 0)?;
-    exclusion(rt, planner, 255, 255)?;
-    unexcluded(rt, planner, 1)?;
-    unexcluded(rt, planner, 2)
+pub fn questions(calls: &Calls<'_, impl Print, Cents>) -> io::Result<()> {
+    exclusion(calls, 0, 0)?;
+    exclusion(calls, 0, 1)?;
+    exclusion(calls, 0, 2)?;
+    exclusion(calls, 0, 3)?;
+    exclusion(calls, 1, 1)?;
+    exclusion(calls, 1, 2)?;
+    exclusion(calls, 2, 1)?;
+    exclusion(calls, 2, 0)?;
+    exclusion(calls, 255, 255)?;
+    unexcluded(calls, 1)?;
+    unexcluded(calls, 2)
 }
 
-/// Sets the rank of a decision.
-fn rank(rt: &impl Print, planner: &mut Planner<Cents>, decision: u8, rank: u8) -> io::Result<()> {
-    let answer = done(planner.rank(decision, rank));
-    println!(rt; "rank {decision} {rank}: {answer}")
+/// Sets the rank of a decision, and prints the answer.
+fn rank(calls: &mut Calls<'_, impl Print, Cents>, decision: u8, rank: u8) -> io::Result<()> {
+    let answer = done(calls.planner.rank(decision, rank));
+    println!(calls.rt; "rank {decision} {rank}: {answer}")
 }
 
 /// Ranks of decisions that there are and are not.
-pub fn ranks(rt: &impl Print, planner: &mut Planner<Cents>) -> io::Result<()> {
-    rank(rt, planner, 0, 255)?;
-    rank(rt, planner, 1, 0)?;
-    rank(rt, planner, 2, 0)?;
-    rank(rt, planner, 255, 0)
+pub fn ranks(calls: &mut Calls<'_, impl Print, Cents>) -> io::Result<()> {
+    rank(calls, 0, 255)?;
+    rank(calls, 1, 0)?;
+    rank(calls, 2, 0)?;
+    rank(calls, 255, 0)
 }

@@ -1,8 +1,8 @@
 //! Calls at the edges of what is accepted, a line for each with its answer or its refusal's number.
 #![tactic(auto)]
 
+use calling::Calls;
 use measure::Cents;
-use planner::Planner;
 use showing::Trouble;
 
 mod asking;
@@ -10,14 +10,14 @@ mod filling;
 mod openings;
 
 fn main(rt: HostRuntime) -> Result<(), Trouble> {
-    let mut planner = Planner::<Cents>::new();
-    openings::openings(&rt, &mut planner)?;
+    let mut calls = Calls::<_, Cents>::new(&rt);
+    openings::openings(&mut calls)?;
     openings::composings(&rt)?;
-    filling::fillings(&rt, &mut planner)?;
-    filling::overflows(&rt, &mut planner)?;
-    asking::budgets(&rt, &mut planner)?;
-    asking::buffers(&rt, &planner)?;
-    asking::questions(&rt, &planner)?;
-    asking::ranks(&rt, &mut planner)?;
+    filling::fillings(&mut calls)?;
+    filling::overflows(&mut calls)?;
+    asking::budgets(&mut calls)?;
+    asking::buffers(&calls)?;
+    asking::questions(&calls)?;
+    asking::ranks(&mut calls)?;
     Ok(())
 }

@@ -1,38 +1,33 @@
 //! Openings and rules at the edges of what is accepted.
-use calling::open;
+use calling::Calls;
 use measure::{Cents, Price};
-use planner::Planner;
 use rules::{Decision, Kind, Literal, Rule};
 use showing::done;
 use std::io;
+use worked::pair;
 
 /// A decision of one value.
 const ONE: Decision = Decision { size: 1, on: true };
 
-/// A decision of a size.
+/// A decision of this size that is on.
 fn sized(size: u8) -> Decision {
     Decision { size, on: true }
 }
 
-/// The pair of a decision and its value 1.
-fn first_of(decision: u8) -> Literal {
-    Literal { decision, value: 1 }
-}
-
 /// Openings with many decisions, and with sizes small and large.
-pub fn openings(rt: &impl Print, planner: &mut Planner<Cents>) -> io::Result<()> {
-    open(rt, planner, "with 0 decisions", &[])?;
-    open(rt, planner, "with 64 decisions", &[ONE; 64])?;
-    open(rt, planner, "with 65 decisions", &[ONE; 65])?;
-    open(rt, planner, "with size 0", &[sized(0)])?;
-    open(rt, planner, "with size 1", &[sized(1)])?;
-    open(rt, planner, "with size 16", &[sized(16)])?;
-    open(rt, planner, "with size 17", &[sized(17)])?;
-    open(rt, planner, "with sizes 16 and 17", &[sized(16), sized(17)])?;
-    open(rt, planner, "with 65 of size 17", &[sized(17); 65])
+pub fn openings(calls: &mut Calls<'_, impl Print, Cents>) -> io::Result<()> {
+    calls.open("with 0 decisions", &[])?;
+    calls.open("with 64 decisions", &[ONE; 64])?;
+    calls.open("with 65 decisions", &[ONE; 65])?;
+    calls.open("with size 0", &[sized(0)])?;
+    calls.open("with size 1", &[sized(1)])?;
+    calls.open("with size 16", &[sized(16)])?;
+    calls.open("with size 17", &[sized(17)])?;
+    calls.open("with sizes 16 and 17", &[sized(16), sized(17)])?;
+    calls.open("with 65 of size 17", &[sized(17); 65])
 }
 
-/// Composes a rule.
+/// Composes a rule, by `compose` and not by `Rule::of`: the line tells what `compose` answers.
 fn compose(
     rt: &impl Print,
     what: &str,
@@ -47,44 +42,38 @@ fn compose(
 
 /// Rules with few and many pairs, with pairs out of order, and with large prices.
 pub fn composings(rt: &impl Print) -> io::Result<()> {
-    let four = [first_of(0), first_of(1), first_of(62), first_of(63)];
-    let five = [
-        first_of(0),
-        first_of(1),
-        first_of(2),
-        first_of(3),
-        first_of(4),
-    ];
+    let four = [pair(0, 1), pair(1, 1), pair(62, 1), pair(63, 1)];
+    let five = [0, 1, 2, 3, 4].map(|decision| pair(decision, 1));
     compose(rt, "0 pairs", Kind::Forbid, &[], 0)?;
-    compose(rt, "1 pair", Kind::Forbid, &[first_of(255)], 0)?;
+    compose(rt, "1 pair", Kind::Forbid, &[pair(255, 1)], 0)?;
     compose(rt, "4 pairs", Kind::Forbid, &four, 0)?;
     compose(rt, "5 pairs", Kind::Forbid, &five, 0)?;
     compose(
         rt,
         "a pair twice",
         Kind::Forbid,
-        &[first_of(1), first_of(1)],
+        &[pair(1, 1), pair(1, 1)],
         0,
     )?;
     compose(
         rt,
         "1,000,000,000 cents",
         Kind::Price,
-        &[first_of(0)],
+        &[pair(0, 1)],
         1_000_000_000,
     )?;
     compose(
         rt,
         "1,000,000,001 cents",
         Kind::Price,
-        &[first_of(0)],
+        &[pair(0, 1)],
         1_000_000_001,
     )?;
     compose(
         rt,
         "a forbid of such cents",
         Kind::Forbid,
-        &[first_of(0)],
+        &[pair(0, 1)],
         1_000_000_001,
     )
 }

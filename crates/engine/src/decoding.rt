@@ -3,9 +3,9 @@ use crate::fault::Fault;
 use arrayvec::ArrayVec;
 use measure::{Cents, Price};
 use planner::Planner;
-use rules::{Decision, Kind, Literal, Rule};
+use rules::{Decision, Kind, Literal, MOST_DECISIONS, Rule};
 
-/// Whether a mark states that a decision is on.
+/// Whether a mark states that a decision is on. The C interface writes a number for it.
 fn is_on(mark: u8) -> Result<bool, Fault> {
     match mark {
         0 => Ok(false),
@@ -16,7 +16,7 @@ fn is_on(mark: u8) -> Result<bool, Fault> {
 
 /// Opens a planner over decisions, each a size and a mark.
 fn read_decisions(planner: &mut Planner<Cents>, stated: &[[u8; 2]]) -> Result<(), Fault> {
-    let mut decisions = ArrayVec::<Decision, 64>::new();
+    let mut decisions = ArrayVec::<Decision, MOST_DECISIONS>::new();
     for [size, mark] in stated {
         let decision = Decision {
             size: *size,
@@ -28,7 +28,7 @@ fn read_decisions(planner: &mut Planner<Cents>, stated: &[[u8; 2]]) -> Result<()
     Ok(())
 }
 
-/// The kind of rule that a byte states.
+/// The kind of rule that a byte states. The C interface writes a number for it.
 fn kind_of(byte: u8) -> Result<Kind, Fault> {
     match byte {
         0 => Ok(Kind::Forbid),
@@ -67,10 +67,8 @@ fn read_rule(planner: &mut Planner<Cents>, record: &[u8; 16]) -> Result<(), Faul
         cents: u32::from_le_bytes([c0, c1, c2, c3]),
     };
     let kind = kind_of(kind)?;
-    let stated = pairs.get(0..count as usize).ok_or(Fault::Malformed)?;
-    let mut rule = Rule::new();
-    rule.compose(kind, stated, target, price)?;
-    planner.add(&rule)?;
+    let stated = pairs.get(0..usize::from(count)).ok_or(Fault::Malformed)?;
+    planner.add(&Rule::of(kind, stated, target, price)?)?;
     Ok(())
 }
 
@@ -78,7 +76,7 @@ fn read_rule(planner: &mut Planner<Cents>, record: &[u8; 16]) -> Result<(), Faul
 pub fn read_book(planner: &mut Planner<Cents>, book: &[u8]) -> Result<(), Fault> {
     let (count, behind) = book.split_first().ok_or(Fault::Malformed)?;
     let (decisions, rules) = behind
-        .split_at_checked(2 * *count as usize)
+        .split_at_checked(2 * usize::from(*count))
         .ok_or(Fault::Malformed)?;
     let (records, rest) = rules.as_chunks::<16>();
     if !rest.is_empty() {

@@ -8,6 +8,7 @@ pub enum Fault {
     Refused(Refusal),
 }
 
+// By hand: `thiserror` would want a text for each variant, and the C interface has none.
 impl From<Refusal> for Fault {
     fn from(refusal: Refusal) -> Fault {
         Fault::Refused(refusal)
@@ -15,7 +16,7 @@ impl From<Refusal> for Fault {
 }
 
 impl Fault {
-    /// The number that stands for the fault. It stays a number, 255 beside those of refusals: the C interface answers it.
+    /// The number that stands for the fault, 255 beside those of refusals: the C interface answers a number.
     pub fn number(self) -> u8 {
         match self {
             Fault::Malformed => 255,

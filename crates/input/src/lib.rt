@@ -11,6 +11,7 @@ pub fn read_input<'a>(rt: &HostRuntime, buffer: &'a mut [u8]) -> io::Result<&'a 
     ensures { IfOk result (λ text. length text.now ≤ length buffer.old) }
 {
     let mut input = rt.stdin();
+    // A count beside the buffer: the input comes in parts, and with no heap there is nothing that grows by them.
     let mut count = 0;
     while count < buffer.len() {
         match input.read(&mut buffer[count..])? {

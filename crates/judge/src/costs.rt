@@ -1,7 +1,6 @@
 //! What a plan costs under each measure, or why it has no cost.
 ghost use Rattle.std.specs.Prelude.{◌≡◌, map};
 ghost use Rattle.judge.specs.Costed.{Costed};
-ghost use Rattle.judge.specs.declared.costs.Fault.TheVariants.{Unlawful, Refused};
 
 use measure::{Cents, CentsThenTier, Measure, Tier, TierThenCents};
 use rules::{Breach, Refusal};
@@ -24,27 +23,13 @@ pub enum Fault {
     Refused(Refusal),
 }
 
-impl From<Breach> for Fault {
-    ghost from_gives = { λ breach fault. fault ≡ Unlawful breach };
-
-    fn from(breach: Breach) -> Fault {
-        Fault::Unlawful(breach)
-    }
-}
-
-impl From<Refusal> for Fault {
-    ghost from_gives = { λ refusal fault. fault ≡ Refused refusal };
-
-    fn from(refusal: Refusal) -> Fault {
-        Fault::Refused(refusal)
-    }
-}
-
 /// A plan's cost under one measure.
 fn cost<M: Measure>(book: &Book, plan: &[u8]) -> Result<M, Fault>
     ensures { Costed M.meaning book.now.decisions (map (λ rule. rule.row) book.now.rules) plan.now result }
 {
-    Ok(rules::judge(&book.decisions, &book.rows(), plan)??)
+    rules::judge(&book.decisions, &book.rows(), plan)
+        .map_err(Fault::Refused)?
+        .map_err(Fault::Unlawful)
 }
 
 /// A plan's cost under each measure.
@@ -69,6 +54,7 @@ impl fmt::Display for Costs {
     }
 }
 
+// By hand: a derived text would want one of `Breach`, and only this program prints it.
 impl fmt::Display for Fault {
     fn fmt<W: fmt::Write>(&self, f: &mut fmt::Formatter<W>) -> fmt::Result {
         match *self {

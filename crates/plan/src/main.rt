@@ -2,13 +2,13 @@
 #![tactic(auto)]
 
 use anyhow::anyhow;
-use book::plan_book;
+use book::{MOST_BYTES, plan_book};
 use input::read_input;
 use planner::Planner;
 use std::io::Write;
 
 /// Room for the largest book and one byte more, which tells that a book is too large.
-const ROOM: usize = 65_537;
+const ROOM: usize = MOST_BYTES + 1;
 
 fn main(rt: HostRuntime) -> anyhow::Result<()> {
     let mut buffer = [0; ROOM];

@@ -1,23 +1,23 @@
 //! What the session prints, as text.
 use arrayvec::ArrayVec;
-use rules::{Kind, Row};
+use rules::{Kind, MOST_DECISIONS, Row};
 use sets::DecisionSet;
 use showing::Spaced;
 use std::fmt;
 
-/// A set of decisions, in braces.
+/// A set of decisions, their numbers in braces.
 #[derive(Clone, Copy)]
 pub struct Members(pub DecisionSet);
 
 impl fmt::Display for Members {
     fn fmt<W: fmt::Write>(&self, f: &mut fmt::Formatter<W>) -> fmt::Result {
-        let mut members = ArrayVec::<u8, 64>::new();
+        let mut members = ArrayVec::<u8, MOST_DECISIONS>::new();
         members.extend((0..64).filter(|decision| self.0.has(*decision)))?;
         write!(f, "{{{}}}", Spaced(members.as_slice()))
     }
 }
 
-/// A rule.
+/// A rule as it is stated: its kind, its pairs, and its target or its price.
 #[derive(Clone, Copy)]
 pub struct Stated(pub Row);
 

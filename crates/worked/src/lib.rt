@@ -5,4 +5,4 @@ mod book;
 mod parts;
 
 pub use book::Book;
-pub use parts::{activate, charge, forbid, pair, rule};
+pub use parts::{activate, charge, forbid, pair};

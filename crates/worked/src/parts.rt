@@ -14,32 +14,23 @@ pub fn pair(decision: u8, value: u8) -> Literal
     Literal { decision, value }
 }
 
-/// The rule of these parts.
-pub fn rule(kind: Kind, pairs: &[Literal], target: u8, price: Price) -> Result<Rule, Refusal>
-    ensures { Composes kind pairs.now target price result }
-{
-    let mut rule = Rule::new();
-    rule.compose(kind, pairs, target, price)?;
-    Ok(rule)
-}
-
 /// The rule that forbids these pairs together.
 pub fn forbid(pairs: &[Literal]) -> Result<Rule, Refusal>
     ensures { Composes Forbid pairs.now 0 free result }
 {
-    rule(Kind::Forbid, pairs, 0, Price::default())
+    Rule::of(Kind::Forbid, pairs, 0, Price::default())
 }
 
 /// The rule that this pair activates a decision.
 pub fn activate(target: u8, by: Literal) -> Result<Rule, Refusal>
     ensures { Composes Activate (by ∷ []) target free result }
 {
-    rule(Kind::Activate, &[by], target, Price::default())
+    Rule::of(Kind::Activate, &[by], target, Price::default())
 }
 
 /// The rule that this pair has a price.
 pub fn charge(pair: Literal, tier: u8, cents: u32) -> Result<Rule, Refusal>
     ensures { Composes Priced (pair ∷ []) 0 (record { tier = tier; cents = cents }) result }
 {
-    rule(Kind::Price, &[pair], 0, Price { tier, cents })
+    Rule::of(Kind::Price, &[pair], 0, Price { tier, cents })
 }

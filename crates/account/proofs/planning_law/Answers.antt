@@ -1,7 +1,6 @@
 use Rattle.account.proofs.Planning.{planning}
 use Rattle.account.proofs.planning_law.Goals as goal
 
--- src/lib.rt:11:1
 pub returns : goal.returns
 returns g c =
     planning g.M.Measure.meaning

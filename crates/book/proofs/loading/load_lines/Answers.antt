@@ -1,14 +1,9 @@
-use Rattle.std.proofs.Common.{false, Err, sym, ap, ◌∙◌}
+use Rattle.std.proofs.Common.{Err, sym, ap, ◌∙◌}
 use Rattle.std.proofs.lemmas.Result.{err_from_is_err_and}
 use Rattle.planner.specs.Planners.{account_of}
 use Rattle.statements.specs.Views.{left_lines, line_of, on_ok}
-use Rattle.book.specs.Loads.{load_lines}
 use Rattle.book.proofs.LoadSteps.{lines_end, lines_go_on, lines_stop}
 use Rattle.book.proofs.loading.load_lines.Goals as goal
-
-pub loop-line-init : goal.loop-line-init
-loop-line-init g c =
-    ap (load_lines g.M.Measure.meaning false (account_of c.args.planner.now)) (sym c.of-line-items.ensures ∙ ap left_lines (sym c.into_iter-line-iterator.ensures.into_iter_gives))
 
 pub returns-in_err-began : goal.returns-in_err-began
 returns-in_err-began g c =

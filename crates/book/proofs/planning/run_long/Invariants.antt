@@ -5,4 +5,4 @@ use Rattle.book.specs.Outcomes.{after_runs}
 use Rattle.book.proofs.planning.run_long.Given as goal
 
 abbrev pub invariant-loop-made : goal.invariant-loop-made
-invariant-loop-made l = account_of l.planner ≡ after_runs (pair_of tier cents) l.made l.steps (account_of l.initial.planner)
+invariant-loop-made l = account_of l.planner ≡ after_runs (pair_of tier cents) l.made 100000 (account_of l.initial.planner)
