@@ -1,4 +1,5 @@
 -- At most (V + 2) ^ (N + 1) steps between two changes of rules, for N decisions of V values in all.
+use Rattle.std.proofs.lemmas.Grind.{common_steps}
 use Rattle.std.proofs.Common.{◌≡◌, ℕ, zero, suc, ◌+◌, ◌^◌, ◌<◌, ◌≤◌, Bool, true, false, ◌&&◌, List, [], ◌∷◌, length, Some, None, sum_by, Option, refl, ap, add_assoc, arith}
 use Rattle.std.proofs.lemmas.Bool.{cond_both}
 use Rattle.measure.specs.Meaning.{Meaning}
@@ -8,7 +9,7 @@ use Rattle.rules.specs.declared.decision.Decision.{Decision}
 use Rattle.rules.specs.declared.refusal.Refusal.{Refusal}
 use Rattle.account.specs.Accounts.{Account, Exclusion, Best, fresh, chosen}
 use Rattle.account.specs.Calls.{Call, add, withdraw, rank, run, best, exclusion, unexcluded, refusal, made, answer, answer_if, accepted, after, after_if, leaves, is_change, steps_of, tally, steps_since, report}
-use Rattle.account.specs.Steps.{Retreat, retreat, blamed, blame, with_exclusions, enter, extend, conclude, champion, price_reason, any_rests, support, tested, smallest_free, pick, waits, step, step_at, advance, advance_in, one_if_open}
+use Rattle.account.specs.Steps.{Retreat, retreat, blamed, blame, with_exclusions, enter, extend, conclude, champion, price_reason, any_rests, support, tested, smallest_free, waits, step, step_at, advance, advance_in, one_if_open}
 use Rattle.account.specs.declared.state.State.{State}
 use Rattle.account.specs.declared.state.State.TheVariants.{Open, Settled}
 use Rattle.account.proofs.Formed.{Formed}
@@ -89,9 +90,7 @@ module _ {C : Type 0} (m : Meaning C) (laws : Laws m) where
     -- each step raises the number, or settles
     pub step_rises : (step m a).state ≡ Open → height_of a < height_of (step m a)
     unfolding step
-    step_rises =
-        at_rises (pick a.ranks (waits a.book (chosen a.trail)) (length a.book.decisions))
-        (picked a.ranks (waits a.book (chosen a.trail)) (length a.book.decisions)) (step_formed m laws a f)
+    step_rises = grind (arith, common_steps, at_rises, chosen, picked, step_formed)
 
   -- n steps can have been counted: while open, no more than the number
   abbrev Counted : ℕ → Account C → Type 0

@@ -1,6 +1,7 @@
 -- Every list of calls leaves a sound account over the same decisions.
 use Rattle.std.proofs.lemmas.Grind.{common_steps}
-use Rattle.std.proofs.Common.{◌≡◌, ℕ, zero, suc, ◌<◌, ◌≤◌, List, [], ◌∷◌, length, Some, None, Option, refl, ap, ◌∙◌, arith}
+use Rattle.std.proofs.lemmas.Grind.{common_steps}
+use Rattle.std.proofs.Common.{◌≡◌, ℕ, zero, suc, ◌<◌, ◌≤◌, List, [], ◌∷◌, length, None, refl, ap, ◌∙◌, arith}
 use Rattle.std.proofs.lemmas.List.{length-take}
 use Rattle.measure.specs.Meaning.{Meaning}
 use Rattle.measure.proofs.Laws.{Laws}
@@ -8,16 +9,15 @@ use Rattle.rules.specs.Conditions.{condition}
 use Rattle.rules.specs.Judging.{row_refusal}
 use Rattle.rules.specs.Plans.{Book}
 use Rattle.rules.specs.declared.decision.Decision.{Decision}
-use Rattle.rules.specs.declared.refusal.Refusal.{Refusal}
 use Rattle.rules.specs.declared.row.Kind.{Kind}
 use Rattle.rules.specs.declared.row.Kind.TheVariants.{Forbid, Activate, Price}
 use Rattle.rules.specs.declared.row.Row.{Row}
 use Rattle.rules.specs.declared.rule.Rule.{Rule}
 use Rattle.rules.proofs.Grounds.{or_else_none}
 use Rattle.account.specs.Accounts.{Account, chosen, fresh}
-use Rattle.account.specs.Calls.{Call, add, withdraw, rank, run, best, exclusion, unexcluded, refusal, leaves, after_if, after, history}
+use Rattle.account.specs.Calls.{Call, add, withdraw, rank, run, best, exclusion, unexcluded, refusal, leaves, after, history}
 use Rattle.account.specs.Changes.{added, withdrawn}
-use Rattle.account.specs.Steps.{waits, pick, extend, conclude, step_at, step, advance_in, advance}
+use Rattle.account.specs.Steps.{extend, conclude, step, advance_in, advance}
 use Rattle.account.specs.declared.state.State.{State}
 use Rattle.account.specs.declared.state.State.TheVariants.{Open, Settled}
 use Rattle.account.proofs.Changed.{added_sound, withdrawn_sound}
@@ -44,11 +44,7 @@ module _ {C : Type 0} (m : Meaning C) where
   -- a step leaves the book
   pub step_book : (a : Account C) → (step m a).book ≡ a.book
   unfolding step
-  step_book a = go (pick a.ranks (waits a.book (chosen a.trail)) (length a.book.decisions))
-    where
-      go : (o : Option ℕ) → (step_at m a o).book ≡ a.book
-      go None = conclude_book a
-      go (Some d) = extend_book a d
+  step_book a = grind (arith, common_steps, chosen, conclude_book, extend_book)
 
   pub advance_book : (n : ℕ) (a : Account C) → (advance m n a).book ≡ a.book
   advance_book zero a = refl
@@ -81,11 +77,7 @@ module _ {C : Type 0} (m : Meaning C) where
 
   -- a call leaves the decisions
   pub after_decisions : (a : Account C) (c : Call) → (after m a c).book.decisions ≡ a.book.decisions
-  after_decisions a c = go (refusal a c)
-    where
-      go : (o : Option Refusal) → (after_if m a c o).book.decisions ≡ a.book.decisions
-      go None = leaves_decisions a c
-      go (Some e) = refl
+  after_decisions a c = grind (arith, common_steps, leaves_decisions)
 
   pub history_decisions : (a : Account C) (cs : List Call) → (history m a cs).book.decisions ≡ a.book.decisions
   history_decisions a [] = refl
@@ -117,11 +109,7 @@ module _ {C : Type 0} (m : Meaning C) where
 
     -- a call keeps an account sound
     pub after_sound : (a : Account C) (c : Call) → Sound m a → Sound m (after m a c)
-    after_sound a c s = go (refusal a c) refl
-      where
-        go : (o : Option Refusal) → refusal a c ≡ o → Sound m (after_if m a c o)
-        go None h = leaves_sound a c s h
-        go (Some e) h = s
+    after_sound a c s = grind (arith, common_steps, leaves_sound)
 
     -- so does a list of calls
     pub history_sound : (a : Account C) (cs : List Call) → Sound m a → Sound m (history m a cs)

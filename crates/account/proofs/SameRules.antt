@@ -1,5 +1,6 @@
 -- Two books with the same rules, each equally often, have the same lawful plans at the same costs, and two settled accounts over them report one cost.
 use Rattle.std.proofs.lemmas.Grind.{common_steps}
+use Rattle.std.proofs.lemmas.Grind.{common_steps}
 use Rattle.std.proofs.Common.{◌≡◌, ℕ, ◌+◌, ◌<◌, ◌≤◌, Bool, true, false, cond, ◌&&◌, eqb, List, [], ◌∷◌, length, Some, None, count_by, Option, sym, refl, ap, ◌∙◌, subst, ⊎_elim, arith}
 use Rattle.std.specs.List.{AllByRecursion}
 use Rattle.std.proofs.lemmas.List.Sums.{sum_by-cons}
@@ -55,9 +56,7 @@ four_from : (a b c d : Bool) → a ≡ true → b ≡ true → c ≡ true → d 
 four_from a b c d p q r s = and_from (a && b && c) d (and_from (a && b) c (and_from a b p q) r) s
 
 rule_reflexive : (r : Row) → same_rule r r ≡ true
-rule_reflexive r =
-    four_from (same_pairs (condition r) (condition r)) (eqb r.target r.target) (eqb r.price.tier r.price.tier) (eqb r.price.cents r.price.cents)
-    (pairs_reflexive (condition r)) (eq-eqb r.target r.target refl) (eq-eqb r.price.tier r.price.tier refl) (eq-eqb r.price.cents r.price.cents refl)
+rule_reflexive r = grind (arith, common_steps, four_from, pairs_reflexive)
 
 rule_alike : (r s : Row) → same_rule r s ≡ true → Alike r s
 rule_alike r s h =

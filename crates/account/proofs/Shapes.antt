@@ -1,13 +1,14 @@
 -- A blame stays within the trail, and one step keeps an account formed.
 use Rattle.std.proofs.lemmas.Grind.{common_steps}
-use Rattle.std.proofs.Common.{◌≡◌, ℕ, ◌<◌, ◌≤◌, Bool, true, false, length, Some, None, Option, ap, ◌∙◌, ⊎_elim, arith}
+use Rattle.std.proofs.lemmas.Grind.{common_steps}
+use Rattle.std.proofs.Common.{◌≡◌, ℕ, ◌<◌, ◌≤◌, Bool, true, false, Some, None, Option, ap, ◌∙◌, ⊎_elim, arith}
 use Rattle.std.proofs.lemmas.Bool.{or_cases}
 use Rattle.measure.specs.Meaning.{Meaning}
 use Rattle.measure.proofs.Laws.{Laws}
 use Rattle.rules.specs.Plans.{Set, size_at, cost}
 use Rattle.account.specs.Accounts.{Account, Exclusion, chosen, except, either}
-use Rattle.account.specs.Steps.{waits, pick, support, choose, price_reason, tested, smallest_free, reasons, any_rests, Retreat, retreat, relearn, blamed, blame, with_exclusions, enter, extend, champion, conclude, step_at, step}
-use Rattle.account.proofs.Finds.{Picked, picked, waits_idle, support_chosen, Free, smallest, reasons_in}
+use Rattle.account.specs.Steps.{waits, support, choose, price_reason, tested, smallest_free, reasons, any_rests, Retreat, retreat, relearn, blamed, blame, with_exclusions, enter, extend, champion, conclude, step}
+use Rattle.account.proofs.Finds.{picked, waits_idle, support_chosen, Free, smallest, reasons_in}
 use Rattle.account.proofs.Formed.{Formed}
 use Rattle.account.proofs.Prices.{price_chosen}
 use Rattle.account.proofs.Tested.{Given, New, given_within, tested_some, tested_other, relearned}
@@ -19,9 +20,7 @@ module _ {C : Type 0} (a : Account C) (f : Formed a) (s : Set) (rests : Bool) (w
     in_range d v e h = ⊎_elim new (λ k. f.in_range d v e k.0) (relearned a.exclusions s rests r d v e h)
       where
         new : (d ≡ r.culprit.decision) × (v ≡ r.culprit.value) × (e ≡ record { reason = except s r.culprit.decision; rests = rests }) → (1 ≤ v) × (v ≤ size_at a.book.decisions d)
-        new k =
-            rw (k.0, k.1, ← l.was)
-            (w r.culprit.decision l.is_blamed, chosen_range a.book.decisions a.trail f.distinct r.culprit.decision)
+        new k = grind (arith, common_steps, chosen_range)
 
     reasoned : (d v : ℕ) (e : Exclusion) → relearn a.exclusions s rests r d v ≡ Some e → (x : ℕ) → e.reason x ≡ true → 0 < chosen r.stays x
     reasoned d v e h x t = grind (arith, common_steps)
@@ -95,8 +94,4 @@ module _ {C : Type 0} (m : Meaning C) (laws : Laws m) where
   -- one step keeps an account formed
   pub step_formed : (a : Account C) → Formed a → Formed (step m a)
   unfolding step
-  step_formed a f = go (pick a.ranks (waits a.book (chosen a.trail)) (length a.book.decisions)) (picked a.ranks (waits a.book (chosen a.trail)) (length a.book.decisions))
-    where
-      go : (o : Option ℕ) → Picked (waits a.book (chosen a.trail)) (length a.book.decisions) o → Formed (step_at m a o)
-      go None h = conclude_formed a f
-      go (Some d) h = extend_formed a f d h.1
+  step_formed a f = grind (arith, common_steps, chosen, picked, conclude_formed, extend_formed)

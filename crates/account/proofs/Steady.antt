@@ -1,4 +1,5 @@
 -- One step keeps an account sound, and so does a run.
+use Rattle.std.proofs.lemmas.Grind.{common_steps}
 use Rattle.std.proofs.Common.{◌≡◌, ℕ, zero, suc, ◌<◌, ◌≤◌, Bool, true, false, cond, length, Some, None, Option, sym, refl, ap, ◌∙◌, ⊎_elim, arith}
 use Rattle.std.proofs.lemmas.Bool.{or_left, or_right, both_ways}
 use Rattle.measure.specs.Meaning.{Meaning}
@@ -7,11 +8,11 @@ use Rattle.rules.specs.Conditions.{Plan}
 use Rattle.rules.specs.Plans.{Book, Lawful, cost, size_at}
 use Rattle.account.specs.Accounts.{Account, Entry, Exclusion, Best, chosen}
 use Rattle.account.specs.Law.{Agrees, RulesOut}
-use Rattle.account.specs.Steps.{waits, pick, support, choose, price_reason, tested, smallest_free, reasons, any_rests, with_exclusions, enter, extend, champion, conclude, step_at, step, advance_in, advance}
+use Rattle.account.specs.Steps.{waits, support, choose, price_reason, tested, smallest_free, reasons, any_rests, with_exclusions, enter, extend, champion, conclude, step, advance_in, advance}
 use Rattle.account.specs.declared.state.State.{State}
 use Rattle.account.specs.declared.state.State.TheVariants.{Open, Settled}
 use Rattle.account.proofs.Actives.{waits_ground, lawful_chooses, complete_lawful}
-use Rattle.account.proofs.Finds.{Picked, picked, waits_idle, Free, smallest, reasons_of, rests_in, rests_of}
+use Rattle.account.proofs.Finds.{picked, waits_idle, Free, smallest, reasons_of, rests_in, rests_of}
 use Rattle.account.proofs.Prices.{price_bars, at_most_itself}
 use Rattle.account.proofs.Shapes.{dead_end, tested_formed, dead_end_within, price_within, entered_formed}
 use Rattle.account.proofs.Sound.{Good, Beaten, Sound, blame_sound}
@@ -149,11 +150,7 @@ module _ {C : Type 0} (m : Meaning C) (laws : Laws m) where
   -- one step keeps an account sound
   pub step_sound : (a : Account C) → Sound m a → Sound m (step m a)
   unfolding step
-  step_sound a s = go (pick a.ranks (waits a.book (chosen a.trail)) (length a.book.decisions)) (picked a.ranks (waits a.book (chosen a.trail)) (length a.book.decisions))
-    where
-      go : (o : Option ℕ) → Picked (waits a.book (chosen a.trail)) (length a.book.decisions) o → Sound m (step_at m a o)
-      go None h = conclude_sound a s h
-      go (Some d) h = extend_sound a s d h.1
+  step_sound a s = grind (arith, common_steps, chosen, picked, conclude_sound, extend_sound)
 
   -- so do so many
   pub advance_sound : (n : ℕ) (a : Account C) → Sound m a → Sound m (advance m n a)

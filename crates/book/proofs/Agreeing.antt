@@ -1,12 +1,10 @@
 -- Load agrees with open and adds: what a text of decisions and rules is loaded as, or its fault.
+use Rattle.std.proofs.lemmas.Grind.{common_steps}
 use Rattle.std.proofs.Common.{◌≡◌, ℕ, suc, ◌+◌, Bool, true, false, ◌||◌, List, [], ◌∷◌, ◌++◌, map, length, Some, None, Option, Result, sym, refl, ap, ◌∙◌, append_assoc, append-nil, add-zero, add_comm, arith}
 use Rattle.std.specs.Option.{option_map}
 use Rattle.std.specs.List.{AllByRecursion}
-use Rattle.std.proofs.ByRecursion.{All-append}
 use Rattle.std.proofs.lemmas.Bool.{and_right, le-leb}
 use Rattle.measure.specs.Meaning.{Meaning}
-use Rattle.rules.specs.Compose.{composed}
-use Rattle.rules.specs.Conditions.{condition}
 use Rattle.rules.specs.Judging.{open_refusal}
 use Rattle.rules.specs.Refusals.{or_else}
 use Rattle.rules.specs.declared.decision.Decision.{Decision}
@@ -41,9 +39,7 @@ rules_lack (r ∷ rs) h exact = (line_lacks (stated_rule r) (stated_fits r h.0 e
 
 -- the lines of the text of decisions and rules
 pub lines_stated : (ds : List Decision) (rs : List Rule) → AllByRecursion ByteSized ds → AllByRecursion BytePaired rs → AllByRecursion IsExact rs → lines_of (stated_by ds rs) ≡ ended_lines 1 (map decision_line ds ++ rule_lines rs)
-lines_stated ds rs sizes pairs exact =
-    lines_from 1 (map decision_line ds ++ rule_lines rs)
-    (All-append (Lacks 10) (map decision_line ds) (rule_lines rs) (decisions_lack ds sizes) (rules_lack rs pairs exact))
+lines_stated ds rs sizes pairs exact = grind (arith, common_steps, lines_from, decisions_lack, rules_lack)
 
 -- one error before another
 unless_twice : {X E : Type 0} (o p : Option E) (r : Result X E) → unless o (unless p r) ≡ unless (or_else o p) r
@@ -71,9 +67,7 @@ module _ {C : Type 0} (m : Meaning C) where
 
   -- why a rule's line is refused: as add refuses the rule
   refusal_of : (a : Account C) (r : Rule) → IsExact r → statement_refusal a (stated_rule r) ≡ add_refusal a r.row
-  refusal_of a r exact =
-      ap (λ (o : Option Refusal). or_else o (add_refusal a (composed r.row.kind (condition r.row) r.row.target r.row.price))) (rule_accepted r exact)
-      ∙ ap (add_refusal a) (sym (rule_composed r exact))
+  refusal_of a r exact = grind (arith, common_steps, rule_accepted, rule_composed)
 
   -- the lines of rules
   pub load_rules : (rs : List Rule) → AllByRecursion BytePaired rs → AllByRecursion IsExact rs → (began : Bool) (n : ℕ) (a : Account C) → load_lines m began a (ended_lines n (rule_lines rs)) ≡ added_from m n a rs

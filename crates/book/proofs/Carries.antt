@@ -1,4 +1,6 @@
 -- A rule composed and then added, and what the planner answers to it.
+use Rattle.std.proofs.lemmas.Grind.{common_steps}
+use Rattle.std.proofs.Common.{arith}
 use Rattle.std.proofs.Common.{◌≡◌, ℕ, List, Some, None, Ok, Err, Option, Result, sym, refl, ap, ◌∙◌}
 use Rattle.measure.specs.Meaning.{Meaning}
 use Rattle.measure.specs.declared.price.Price.{Price}
@@ -7,7 +9,6 @@ use Rattle.rules.specs.Refusals.{as_result, or_else, unless_refused}
 use Rattle.rules.specs.declared.literal.Literal.{Literal}
 use Rattle.rules.specs.declared.refusal.Refusal.{Refusal}
 use Rattle.rules.specs.declared.row.Kind.{Kind}
-use Rattle.rules.specs.declared.row.Row.{Row}
 use Rattle.rules.specs.declared.rule.Rule.{Rule}
 use Rattle.account.specs.Accounts.{Account}
 use Rattle.account.specs.Calls.{add, add_refusal, after, after_if, answer, answer_if}
@@ -33,6 +34,4 @@ module _ {C : Type 0} (m : Meaning C) (a : Account C) (r : Rule) where
     composed_says x h = said x (add_refusal a r.row) h ∙ ap as_result ground
 
     pub composed_leaves : after m a (add r) ≡ unless_refused (or_else (compose_refusal k ps price) (add_refusal a (composed k ps t price))) a (added m a k (composed k ps t price))
-    composed_leaves =
-        left (add_refusal a r.row) ∙ ap (λ (w : Row). unless_refused (add_refusal a r.row) a (added m a w.kind w)) is
-        ∙ ap (λ (o : Option Refusal). unless_refused o a (added m a k (composed k ps t price))) ground
+    composed_leaves = grind (arith, common_steps, left, is, k, t, ground)

@@ -1,10 +1,9 @@
 -- Decisions that open accepts, and the pairs of the rules beside them, are numbers of a byte.
-use Rattle.std.proofs.Common.{◌≡◌, ℕ, zero, suc, ◌≤◌, true, not, ◌&&◌, ◌||◌, ltb, leb, List, [], ◌∷◌, length, None, arith}
+use Rattle.std.proofs.lemmas.Grind.{common_steps}
+use Rattle.std.proofs.Common.{◌≡◌, ℕ, zero, suc, ◌≤◌, true, ltb, leb, List, [], ◌∷◌, length, None, arith}
 use Rattle.std.proofs.ByRecursion.{All-weaker}
 use Rattle.std.proofs.lemmas.Bool.{and_parts, leb-true, ltb-true, not-false}
 use Rattle.std.specs.List.{AllByRecursion}
-use Rattle.rules.specs.Compose.{is_activate}
-use Rattle.rules.specs.Conditions.{condition}
 use Rattle.rules.specs.Judging.{has_size, sized, open_refusal, known_decisions, known_value, known_values, row_refusal}
 use Rattle.rules.specs.Plans.{size_at}
 use Rattle.rules.specs.declared.decision.Decision.{Decision}
@@ -43,9 +42,4 @@ sizes_fit ds opens = All-weaker (λ (d : Decision). d.size ≤ 16) ByteSized (λ
 
 -- so are the pairs of a rule that they allow
 pub rule_fits : (ds : List Decision) (r : Rule) → open_refusal ds ≡ None → row_refusal ds r.row ≡ None → BytePaired r
-rule_fits ds r opens h =
-    let ps = condition r.row in
-    let (first, second) = or_else_none _ _ h in
-    let aimed = not (is_activate r.row.kind) || ltb r.row.target (length ds) in
-    let known = (and_parts (known_decisions (length ds) ps) aimed (not-false (known_decisions (length ds) ps && aimed) (when_none _ _ first))).0 in
-    pairs_fit ds ps opens known (not-false (known_values ds ps) (when_none _ _ second))
+rule_fits ds r opens h = grind (arith, common_steps, or_else_none, when_none, pairs_fit)

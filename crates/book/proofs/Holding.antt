@@ -1,11 +1,12 @@
 -- What a list of calls from an opening leaves held: rules, and adding those again makes the same book.
 use Rattle.std.proofs.lemmas.Grind.{common_steps}
-use Rattle.std.proofs.Common.{◌≡◌, ℕ, suc, ◌+◌, ◌<◌, ◌≤◌, false, leb, List, [], ◌∷◌, ◌++◌, map, length, take, drop, Some, None, Option, sym, refl, ap, ◌∙◌, subst, arith, length-append, length-drop, length-take}
+use Rattle.std.proofs.lemmas.Grind.{common_steps}
+use Rattle.std.proofs.Common.{◌≡◌, ℕ, suc, ◌+◌, ◌<◌, ◌≤◌, List, [], ◌∷◌, ◌++◌, map, length, take, drop, Some, None, Option, sym, refl, ap, ◌∙◌, subst, arith, length-append, length-drop, length-take}
 use mathlib.Core.List.{map-append}
 use lib.ListN.{length-map}
 use Rattle.std.proofs.ByRecursion.{All-append, All-push, All-weaker}
 use Rattle.std.proofs.lemmas.List.{append-nil, append_assoc, map_push, take-map, drop-map}
-use Rattle.std.proofs.lemmas.Bool.{leb-false, lt-leb}
+use Rattle.std.proofs.lemmas.Bool.{leb-false}
 use Rattle.std.specs.List.{remove, AllByRecursion}
 use Rattle.measure.specs.Meaning.{Meaning}
 use Rattle.rules.specs.Judging.{row_refusal}
@@ -172,11 +173,7 @@ module _ {C : Type 0} (m : Meaning C) where
   -- an allowed rule is added where there is room
   add_one_more : (ds : List Decision) (k : Kind) (a : Account C) (r : Rule) → a.book.decisions ≡ ds → Allowed ds k r → length (held a.book k) < 256
       → (refusal a (add r) ≡ None) × ((after m a (add r)).book ≡ with_rules a.book k (held a.book k ++ r.row ∷ []))
-  add_one_more ds k a r over one room =
-      let known : row_refusal a.book.decisions r.row ≡ None = subst (λ (es : List Decision). row_refusal es r.row ≡ None) (sym over) one.known in
-      let open_place : leb 256 (length (held a.book r.row.kind)) ≡ false = lt-leb 256 (length (held a.book r.row.kind)) (subst (λ (j : Kind). length (held a.book j) < 256) (sym one.of_kind) room) in
-      let none : refusal a (add r) ≡ None = rw (known, open_place) refl in
-      (none, ap (λ (o : Option Refusal). (after_if m a (add r) o).book) none ∙ added_book a r.row.kind r.row ∙ ap (λ (j : Kind). with_rules a.book j (held a.book j ++ r.row ∷ [])) one.of_kind)
+  add_one_more ds k a r over one room = grind (arith, common_steps, held, added_book)
 
   -- allowed rules of one kind, added behind those held, where there is room for all
   pub adds_kind : (ds : List Decision) (k : Kind) (b : Book) → b.decisions ≡ ds → (old : List Row) (rs : List Rule) (a : Account C) → a.book ≡ with_rules b k old

@@ -1,9 +1,10 @@
 -- Loading a text, line by line.
 use Rattle.std.proofs.lemmas.Grind.{common_steps}
+use Rattle.std.proofs.lemmas.Grind.{common_steps}
 use Rattle.std.proofs.Common.{arith}
 use Rattle.std.proofs.Common.{◌≡◌, ℕ, ◌<◌, ◌≤◌, Bool, true, false, ◌||◌, ltb, List, [], ◌∷◌, length, is_err, Some, None, Ok, Err, Option, Result, sym, refl, ap, ◌∙◌}
 use Rattle.std.specs.Option.{option_map}
-use Rattle.std.proofs.lemmas.Bool.{cond-false, cond-true, false≢true, le-ltb, lt-ltb, true≢false}
+use Rattle.std.proofs.lemmas.Bool.{cond-false, cond-true, le-ltb, lt-ltb}
 use Rattle.measure.specs.Meaning.{Meaning}
 use Rattle.rules.specs.Refusals.{as_result, unless_refused}
 use Rattle.rules.specs.declared.refusal.Refusal.{Refusal}
@@ -91,22 +92,10 @@ module _ {C : Type 0} (m : Meaning C) where
     loaded_is = lines ∙ ap (λ (x : Account C). load_lines m false x (lines_of text)) clear ∙ sym (small_enough text small)
 
     pub lines_verdict : r ≡ verdict (loaded m text)
-    lines_verdict = by_result r ∙ ap verdict loaded_is
-      where
-        by_result : (x : Result (Unit {0}) Fault) → x ≡ verdict (on_ok (λ u. b) x)
-        by_result (Ok u) = refl
-        by_result (Err e) = refl
+    lines_verdict = grind (arith, common_steps, loaded_is)
 
     pub refused_left : is_err r ≡ true → fresh [] ≡ left_by (loaded m text)
-    refused_left h = by_result r h ∙ ap left_by loaded_is
-      where
-        by_result : (x : Result (Unit {0}) Fault) → is_err x ≡ true → fresh [] ≡ left_by (on_ok (λ u. b) x)
-        by_result (Ok u) h = absurd (false≢true h)
-        by_result (Err e) h = refl
+    refused_left h = grind (arith, common_steps, loaded_is)
 
     pub accepted_left : is_err r ≡ false → b ≡ left_by (loaded m text)
-    accepted_left h = by_result r h ∙ ap left_by loaded_is
-      where
-        by_result : (x : Result (Unit {0}) Fault) → is_err x ≡ false → b ≡ left_by (on_ok (λ u. b) x)
-        by_result (Ok u) h = refl
-        by_result (Err e) h = absurd (true≢false h)
+    accepted_left h = grind (arith, common_steps, loaded_is)

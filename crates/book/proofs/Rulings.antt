@@ -1,5 +1,6 @@
 -- Rules, and what their lines state.
-use Rattle.std.proofs.Common.{◌≡◌, ℕ, ◌≤◌, true, ◌&&◌, ◌||◌, eqb, leb, List, [], ◌∷◌, map, length, None, sym, refl, ap, arith, length-take}
+use Rattle.std.proofs.lemmas.Grind.{common_steps}
+use Rattle.std.proofs.Common.{◌≡◌, ℕ, ◌≤◌, true, ◌&&◌, ◌||◌, eqb, leb, List, [], ◌∷◌, map, length, None, sym, refl, ap, arith}
 use Rattle.std.specs.List.{AllByRecursion}
 use Rattle.std.proofs.lemmas.Bool.{and_from, and_parts, eqb-true, le-leb, leb-true}
 use Rattle.measure.specs.declared.price.Price.{Price}
@@ -76,10 +77,4 @@ exact_fits r h =
     head_fits r.kind r.target r.price low range aimed priced
 
 pub stated_fits : (r : Rule) → BytePaired r → IsExact r → fitting (stated_rule r) ≡ true
-stated_fits r h exact =
-    let ps = condition r.row in
-    let count : length ps ≡ r.row.count = omega (arith, length-take r.row.count r.row.pairs, r.few, r.full) in
-    let some = le-leb 1 (length ps) (omega (arith, r.some)) in
-    let few = le-leb (length ps) 4 (omega (arith, r.few)) in
-    and_from (leb 1 (length ps) && leb (length ps) 4) _ (and_from (leb 1 (length ps)) (leb (length ps) 4) some few)
-    (and_from (fitting_pairs ps) _ (bytes_fit ps h) (exact_fits r.row exact))
+stated_fits r h exact = grind (arith, common_steps, bytes_fit, exact_fits)

@@ -1,4 +1,6 @@
 -- What best reports, as the text of an outcome.
+use Rattle.std.proofs.lemmas.Grind.{common_steps}
+use Rattle.std.proofs.Common.{arith}
 use Rattle.std.proofs.Common.{◌≡◌, ℕ, List, [], map, length, take, drop, Some, None, Option, refl, ap, ◌∙◌}
 use Rattle.std.specs.List.{range_with_len}
 use Rattle.std.proofs.lemmas.List.FromFn.{length-map-range_with_len}
@@ -7,9 +9,8 @@ use Rattle.measure.specs.Meaning.{Meaning}
 use Rattle.measure.specs.declared.cents.Cents.{Cents}
 use Rattle.measure.specs.declared.pair.Pair.{Pair}
 use Rattle.measure.specs.declared.tier.Tier.{Tier}
-use Rattle.rules.specs.declared.refusal.Refusal.{Refusal}
 use Rattle.account.specs.Accounts.{Account, Best}
-use Rattle.account.specs.Calls.{answer, answer_if, best, refusal, report, reported, written}
+use Rattle.account.specs.Calls.{answer, best, report, reported, written}
 use Rattle.account.specs.declared.state.State.{State}
 use Rattle.rendering.specs.Texts.{outcome_text}
 use Rattle.book.specs.Outcomes.{account_text, outcome_of}
@@ -33,8 +34,4 @@ reported_text s t n buffer bytes c (Some b) e =
     (ap (take n) w ∙ take_at (map b.plan (range_with_len 0 n)) (drop n buffer) n (length-map-range_with_len b.plan 0 n))
 
 pub reports : (m : Meaning (Pair Tier Cents)) (a : Account (Pair Tier Cents)) (buffer bytes : List ℕ) (t : State) (c : Option (Pair Tier Cents)) → reported t c bytes ≡ answer m a (best buffer) → outcome_text t c (take (length a.book.decisions) bytes) ≡ account_text a
-reports m a buffer bytes t c e = accepted (refusal a (best buffer)) e
-  where
-    accepted : (o : Option Refusal) → reported t c bytes ≡ answer_if m a (best buffer) o → outcome_text t c (take (length a.book.decisions) bytes) ≡ account_text a
-    accepted None h = reported_text a.state t (length a.book.decisions) buffer bytes c a.best h
-    accepted (Some x) h = cc
+reports m a buffer bytes t c e = grind (arith, common_steps, best, reported_text)
