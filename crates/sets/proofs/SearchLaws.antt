@@ -1,6 +1,6 @@
 -- What the searches up to a bound find.
 use Rattle.std.proofs.Common.{◌≡◌, ℕ, zero, suc, ◌<◌, Bool, true, false, ◌||◌, Some, None, Option, sym, refl, ap, ◌∙◌, ap₂, inl, inr, not-suc-le-zero, arith}
-use Rattle.std.proofs.lemmas.Bool.{cases_eq, or_cases, or_left, or_right, or_from}
+use Rattle.std.proofs.lemmas.Bool.{cases_eq, or_cases, or_left, or_right}
 use Rattle.sets.specs.Searches.{some_below, or_else, unless, smallest_outside}
 
 -- tests that agree below a bound find the same there
@@ -9,13 +9,6 @@ unfolding some_below
 some_below_same s t zero same = refl
 some_below_same s t (suc n) same =
     ap₂ (λ (x y : Bool). x || y) (some_below_same s t n (λ k h. same k (omega arith))) (same n (omega arith))
-
--- a test that holds of none below a bound
-pub some_below_none : (t : ℕ → Bool) (n : ℕ) → ((k : ℕ) → k < n → t k ≡ false) → some_below t n ≡ false
-unfolding some_below
-some_below_none t zero none = refl
-some_below_none t (suc n) none =
-    or_from (some_below t n) (t n) (some_below_none t n (λ k h. none k (omega arith))) (none n (omega arith))
 
 -- a test that holds of one below a bound
 pub some_below_from : (t : ℕ → Bool) (n k : ℕ) → k < n → t k ≡ true → some_below t n ≡ true
