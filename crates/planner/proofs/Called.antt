@@ -132,7 +132,7 @@ module _ {C : Type 0} (m : Meaning C) (a : Account C) where
         (told, e ∙ ap (λ (r : Row). added m a r.kind r) same ∙ left)
 
   -- what a rule's going leaves
-  pub place_left : (k : Kind) (n : ℕ) (rows : List Row) (x : Account C) → rows ≡ held a.book k → n < length rows → x ≡ withdrawn m a k n → (done ≡ answer m a (withdraw k n)) × (x ≡ after m a (withdraw k n))
-  place_left k n rows x same l e =
-      let (told, left) = accepts m a (withdraw k n) (ap (λ (b : Bool). when b NoSuchRule) (lt-leb (length (held a.book k)) n (omega (arith, l, ap length same)))) in
+  pub place_left : (k : Kind) (n : ℕ) (x : Account C) → n < length (held a.book k) → x ≡ withdrawn m a k n → (done ≡ answer m a (withdraw k n)) × (x ≡ after m a (withdraw k n))
+  place_left k n x l e =
+      let (told, left) = accepts m a (withdraw k n) (ap (λ (b : Bool). when b NoSuchRule) (lt-leb (length (held a.book k)) n l)) in
       (told, e ∙ left)

@@ -15,6 +15,7 @@ pub struct Book {
     forbids: RuleTable,
     activates: RuleTable,
     prices: RuleTable,
+    // What an `ArrayVec` bounds is not seen by proofs outside it.
     ghost few: { length decisions.items ≤ 64 },
     ghost sizes: { sized decisions.items ≡ true },
 }

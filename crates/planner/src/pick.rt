@@ -36,7 +36,7 @@ pub fn pick_decision(book: &Book, ranks: &[u8; 64], plan: &[u8]) -> Option<Domai
 {
     let decisions = book.decisions();
     let targets = enabled::<EachRow>(book.rows(Kind::Activate), plan);
-    (0..decisions.len() as u8)
+    (0..book.count())
         .filter(|decision| is_waiting(decisions, targets, plan, *decision))
         .min_by_key(|decision| value_of(ranks, *decision))
         .and_then(|decision| book.domain(decision))

@@ -25,7 +25,7 @@ pub struct Trials<'a, M> {
 impl<M: Measure> Trials<'_, M> {
     /// Why a plan is excluded by its cost, as far as the decision goes: it reaches the best's, for the other decisions
     /// of the kept price rules.
-    // A pair, as an exclusion is to be answered.
+    // A pair in an `Option`, here and below, as `Exclusions::get` answers it.
     fn try_cost(
         &self,
         best: M,

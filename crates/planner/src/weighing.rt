@@ -26,6 +26,7 @@ fn better<M: Measure>(held: Option<Best<M>>, plan: Best<M>) -> Best<M>
 }
 
 /// The best that a complete trail's plan leaves, and the decisions of the price rules kept for the plan.
+// Parts of the planner, here and below, since a method would borrow the whole of it.
 pub fn weigh<M: Measure>(
     book: &Book,
     held: Option<Best<M>>,
@@ -45,8 +46,8 @@ pub fn weigh<M: Measure>(
 /// The best, its cost worked out again.
 pub fn repriced_best<M: Measure>(
     book: &Book,
-    costs: &mut SuffixCosts<M>,
     held: Option<Best<M>>,
+    costs: &mut SuffixCosts<M>,
 ) -> Option<Best<M>>
     ensures { option_map best_of result ≡ repriced M.meaning (book_of book.now).prices (option_map best_of held) }
 {

@@ -37,7 +37,8 @@ impl Book {
         ensures after { book_of self.new ≡ unless_refused (open_refusal decisions.now) (book_of self.old) (over_decisions decisions.now) }
     {
         check_decisions(decisions)?;
-        self.decisions = ArrayVec::try_from(decisions).map_err(|_| Refusal::TooManyDecisions)?;
+        // Never refused: accepted decisions are 64 at most.
+        self.decisions = ArrayVec::try_from(decisions).unwrap();
         self.forbids.clear();
         self.activates.clear();
         self.prices.clear();
@@ -53,7 +54,16 @@ impl Book {
         self.decisions.as_slice()
     }
 
+    /// How many decisions there are.
+    pub fn count(&self) -> u8
+        ensures { result ≡ length (book_of self.now).decisions }
+    {
+        // Cast: 64 at most fit, and `try_from` would say a failure that there is not.
+        self.decisions.len() as u8
+    }
+
     /// The domain of a decision; none if there is no such decision.
+    // That it is one of this book is a fact of two values, so no field of `Domain` can keep it.
     pub fn domain(&self, decision: u8) -> Option<Domain>
         ensures { MatchOption result (length (book_of self.now).decisions ≤ decision) (λ d. (d.decision ≡ decision) × IsDomain (book_of self.now) d) }
     {
@@ -94,6 +104,13 @@ impl Book {
         ensures known { Known result.now }
     {
         self.table(kind).rows()
+    }
+
+    /// How many rules of a kind there are.
+    pub fn len(&self, kind: Kind) -> usize
+        ensures { result ≡ length (held (book_of self.now) kind) }
+    {
+        self.table(kind).len()
     }
 
     /// Puts a rule last of its kind.

@@ -1,4 +1,4 @@
-//! The calls on a planner that leave its rules alone.
+//! The opening of a planner, and the calls that change none of its rules.
 ghost use Rattle.std.specs.Prelude.{◌≡◌, ◌≤◌, true, false, List, [], length, is_ok, None, IfOk, IfErr};
 ghost use Rattle.account.specs.Accounts.{fresh};
 ghost use Rattle.account.specs.Calls.{Call, after, answer, best, exclusion, rank as rank_call, run, unexcluded};
@@ -140,6 +140,7 @@ impl<M: Measure> Planner<M> {
 
     /// Why a value of a decision is excluded, and whether that rests on the best; none if it is not. Refuses an unknown
     /// decision, then an unknown value.
+    // A pair in an `Option`, as `Exclusions::get` answers it.
     pub fn exclusion(&self, decision: u8, value: u8) -> Result<Option<(DecisionSet, bool)>, Refusal>
         ensures { says_excluded result ≡ answer M.meaning (account_of self.now) (exclusion decision value) }
     {

@@ -25,7 +25,7 @@ impl<M: Measure> Planner<M> {
     {
         let row = rule.row();
         check_row(self.book.decisions(), &row)?;
-        if self.book.rows(row.kind).len() >= MOST_RULES {
+        if self.book.len(row.kind) >= MOST_RULES {
             return Err(Refusal::TableFull);
         }
         let met = self.best_meets(&row);
@@ -43,7 +43,7 @@ impl<M: Measure> Planner<M> {
         ensures value { says_done result ≡ answer M.meaning (account_of self.old) (withdraw_call kind place) }
         ensures after { account_of self.new ≡ after M.meaning (account_of self.old) (withdraw_call kind place) }
     {
-        if place >= self.book.rows(kind).len() {
+        if place >= self.book.len(kind) {
             return Err(Refusal::NoSuchRule);
         }
         self.book.remove(kind, place);
@@ -64,12 +64,12 @@ impl<M: Measure> Planner<M> {
 
     /// Empties the trail and opens the state; of the exclusions those with an empty reason stay, and of these the ones
     /// that rest on the best only if `resting`.
+    // A flag, here and below, as `Exclusions::keep_empty` takes it.
     fn reopen(&mut self, resting: bool)
         ensures { account_of self.new ≡ reopened (account_of self.old) (account_of self.old).book (account_of self.old).best (λ e. resting || not e.rests) }
     {
         self.trail.clear();
-        let count = self.book.decisions().len() as u8;
-        self.exclusions.keep_empty(count, resting);
+        self.exclusions.keep_empty(self.book.count(), resting);
         self.state = State::Open;
     }
 
@@ -104,7 +104,7 @@ impl<M: Measure> Planner<M> {
         ensures { account_of self.new ≡ reopened (account_of self.old) (account_of self.old).book (repriced M.meaning (account_of self.old).book.prices (account_of self.old).best) (λ e. resting || not e.rests) }
     {
         let held = self.best;
-        self.best = repriced_best(&self.book, &mut self.costs, held);
+        self.best = repriced_best(&self.book, held, &mut self.costs);
         self.reopen(resting);
     }
 }

@@ -44,8 +44,8 @@ impl<M: Measure> Planner<M> {
         self.best.map(|best| best.cost)
     }
 
-    /// A step that picks the decision of a domain: its values are tested, and the smallest free one enters the trail, or all are
-    /// excluded and the step is a dead end.
+    /// A step that picks the decision of a domain: its values are tested, and the smallest free one enters the trail,
+    /// or all are excluded and the step is a dead end.
     fn extend(&mut self, domain: Domain)
         requires known { IsDomain (account_of self.old).book domain }
         requires idle { chosen (account_of self.old).trail domain.decision ≡ 0 }

@@ -23,7 +23,7 @@ returns-clause-picked c =
     let same : length ds ≡ n = ap length c.decisions-decisions.ensures.value in
     let least : c.min_by_key.result ≡ pick ranks (waits b p) n =
     least_picked ranks _ _ (λ x k q h. search (rules, tests)) waiting n c.min_by_key.result c.min_by_key.ensures.ran
-    (YieldsList-from_filter _ waiting (YieldsList-from_range 0 n n (c.filter.ensures.source ∙ ap (λ (k : ℕ). record { start = 0; end = k }) same) (omega arith)) c.filter.ensures.closure (λ x b q k. search (rules, tests)))
+    (YieldsList-from_filter _ waiting (YieldsList-from_range 0 n n (c.filter.ensures.source ∙ ap (λ (k : ℕ). record { start = 0; end = k }) c.count.ensures) (omega arith)) c.filter.ensures.closure (λ x b q k. search (rules, tests)))
     ∙ pick_same ranks waiting (waits b p) n (λ d l.
     ap (λ (t : Bool). not (ltb 0 (p d)) && (on_at ds d || t)) (c.enabled-targets.ensures d (omega (arith, l, same, c.decisions-decisions.ensures.few)) ∙ ap (λ (xs : List Row). enables xs p d) (each_counts c.rows.result.now ∙ c.rows.ensures.value))
     ∙ ap (λ (xs : List Decision). not (ltb 0 (p d)) && (on_at xs d || enables b.activates p d)) c.decisions-decisions.ensures.value) in

@@ -1,4 +1,4 @@
-use Rattle.std.proofs.Common.{length, sym, refl, ap, arith}
+use Rattle.std.proofs.Common.{rules, sym, refl}
 use Rattle.std.proofs.lemmas.Result.{err_from_is_err_and}
 use Rattle.account.specs.Calls.{add}
 use Rattle.account.specs.Changes.{held}
@@ -28,7 +28,7 @@ invariant_of-add g c =
     record { shape = rule_shaped c.args.rule.now c.row-row.result c.decisions.result.now c.row-row.ensures c.decisions.ensures.few none }
 
 pub add-requires : goal.add-requires
-add-requires g c = omega (arith, c.if-rows-ge-MOST_RULES.false, ap length c.rows.ensures.value)
+add-requires g c = search rules
 
 pub returns-in-Forbid : goal.returns-in-Forbid
 returns-in-Forbid g c =
@@ -39,8 +39,8 @@ returns-in-Forbid g c =
     let x = account_of c.reopen_forbidding.new.self in
     let changed = forbid_added m a x (book_of c.add.new.self) row row.kind c.best_meets-met.result c.in-Forbid.is c.add.ensures c.best_meets-met.ensures c.reopen_forbidding.ensures in
     let (told, left) =
-    rule_left m a c.args.rule.now row ds c.rows.result.now c.row-row.ensures c.decisions.ensures.value c.rows.ensures.value x
-    (accepted_none (row_refusal ds row) _ (sym c.in_ok-check_row.ensures)) c.if-rows-ge-MOST_RULES.false changed in
+    rule_left m a c.args.rule.now row ds (held a.book row.kind) c.row-row.ensures c.decisions.ensures.value refl x
+    (accepted_none (row_refusal ds row) _ (sym c.in_ok-check_row.ensures)) (search rules) changed in
     record { value = told; after = left }
 
 pub returns-in-Activate : goal.returns-in-Activate
@@ -52,8 +52,8 @@ returns-in-Activate g c =
     let x = account_of c.reopen_rejudged.new.self in
     let changed = activate_added m a x (book_of c.add.new.self) row row.kind c.in-Activate.is c.add.ensures c.reopen_rejudged.ensures in
     let (told, left) =
-    rule_left m a c.args.rule.now row ds c.rows.result.now c.row-row.ensures c.decisions.ensures.value c.rows.ensures.value x
-    (accepted_none (row_refusal ds row) _ (sym c.in_ok-check_row.ensures)) c.if-rows-ge-MOST_RULES.false changed in
+    rule_left m a c.args.rule.now row ds (held a.book row.kind) c.row-row.ensures c.decisions.ensures.value refl x
+    (accepted_none (row_refusal ds row) _ (sym c.in_ok-check_row.ensures)) (search rules) changed in
     record { value = told; after = left }
 
 pub returns-in-Price : goal.returns-in-Price
@@ -65,6 +65,6 @@ returns-in-Price g c =
     let x = account_of c.reopen_repriced.new.self in
     let changed = price_added m a x (book_of c.add.new.self) row row.kind c.best_meets-met.result c.in-Price.is c.add.ensures c.best_meets-met.ensures c.reopen_repriced.ensures in
     let (told, left) =
-    rule_left m a c.args.rule.now row ds c.rows.result.now c.row-row.ensures c.decisions.ensures.value c.rows.ensures.value x
-    (accepted_none (row_refusal ds row) _ (sym c.in_ok-check_row.ensures)) c.if-rows-ge-MOST_RULES.false changed in
+    rule_left m a c.args.rule.now row ds (held a.book row.kind) c.row-row.ensures c.decisions.ensures.value refl x
+    (accepted_none (row_refusal ds row) _ (sym c.in_ok-check_row.ensures)) (search rules) changed in
     record { value = told; after = left }

@@ -1,3 +1,4 @@
+use Rattle.std.proofs.Common.{rules}
 use Rattle.planner.specs.Books.{book_of}
 use Rattle.planner.specs.Planners.{account_of}
 use Rattle.planner.proofs.Called.{place_left}
@@ -10,7 +11,7 @@ returns-in-Forbid g c =
     let a = account_of c.args.self.now in
     let x = account_of c.reopen_afresh.new.self in
     let changed = forbid_withdrawn m a x (book_of c.remove.new.self) c.args.kind c.args.place c.in-Forbid.is c.remove.ensures c.reopen_afresh.ensures in
-    let (told, left) = place_left m a c.args.kind c.args.place c.rows.result.now x c.rows.ensures.value c.if-place-rows.false changed in
+    let (told, left) = place_left m a c.args.kind c.args.place x (search rules) changed in
     record { value = told; after = left }
 
 pub returns-in-Activate : goal.returns-in-Activate
@@ -19,7 +20,7 @@ returns-in-Activate g c =
     let a = account_of c.args.self.now in
     let x = account_of c.reopen_rejudged.new.self in
     let changed = activate_withdrawn m a x (book_of c.remove.new.self) c.args.kind c.args.place c.in-Activate.is c.remove.ensures c.reopen_rejudged.ensures in
-    let (told, left) = place_left m a c.args.kind c.args.place c.rows.result.now x c.rows.ensures.value c.if-place-rows.false changed in
+    let (told, left) = place_left m a c.args.kind c.args.place x (search rules) changed in
     record { value = told; after = left }
 
 pub returns-in-Price : goal.returns-in-Price
@@ -28,5 +29,5 @@ returns-in-Price g c =
     let a = account_of c.args.self.now in
     let x = account_of c.reopen_repriced.new.self in
     let changed = price_withdrawn m a x (book_of c.remove.new.self) c.args.kind c.args.place c.in-Price.is c.remove.ensures c.reopen_repriced.ensures in
-    let (told, left) = place_left m a c.args.kind c.args.place c.rows.result.now x c.rows.ensures.value c.if-place-rows.false changed in
+    let (told, left) = place_left m a c.args.kind c.args.place x (search rules) changed in
     record { value = told; after = left }
