@@ -89,8 +89,7 @@ impl<M: Measure> Trials<'_, M> {
     {
         let mut trial = *plan;
         for v in 1..=self.domain.size {
-            // `as` at an index: `usize::from` is longer and says no more.
-            trial[self.domain.decision as usize] = v;
+            trial[usize::from(self.domain.decision)] = v;
             self.try_value(v, &trial, costs, exclusions);
         }
     }

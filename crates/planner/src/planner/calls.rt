@@ -88,8 +88,7 @@ impl<M: Measure> Planner<M> {
         ensures after { account_of self.new ≡ after M.meaning (account_of self.old) (rank_call decision rank) }
     {
         let domain = self.domain(decision)?;
-        // `as` at an index: `usize::from` is longer and says no more.
-        self.ranks[domain.decision as usize] = rank;
+        self.ranks[usize::from(domain.decision)] = rank;
         Ok(())
     }
 
@@ -128,14 +127,11 @@ impl<M: Measure> Planner<M> {
         if buffer.len() < count {
             return Err(Refusal::ShortPlan);
         }
-        match self.best {
-            Some(best) => {
-                let front = &mut buffer[0..count];
-                front.copy_from_slice(&best.plan[0..count]);
-                Ok((self.state, Some(best.cost)))
-            }
-            None => Ok((self.state, None)),
+        if let Some(best) = self.best {
+            let front = &mut buffer[0..count];
+            front.copy_from_slice(&best.plan[0..count]);
         }
+        Ok((self.state, self.best_cost()))
     }
 
     /// Why a value of a decision is excluded, and whether that rests on the best; none if it is not. Refuses an unknown

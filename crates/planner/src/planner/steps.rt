@@ -38,7 +38,7 @@ impl<M: Measure> Planner<M> {
     }
 
     /// The best's cost, if one is held.
-    fn best_cost(&self) -> Option<M>
+    pub(super) fn best_cost(&self) -> Option<M>
         ensures { result ≡ cost_held (account_of self.now).best }
     {
         self.best.map(|best| best.cost)

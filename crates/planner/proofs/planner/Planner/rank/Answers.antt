@@ -13,5 +13,5 @@ returns g c =
     let (same, (size, known)) = c.in_ok-domain.ensures.known in
     let low : c.args.decision < length a.book.decisions = omega (arith, same, known) in
     let (told, left) = accepts m a (rank c.args.decision c.args.rank) (known_decision (length a.book.decisions) c.args.decision UnknownDecision low) in
-    let ranked = ap (λ (d : ℕ). from_bytes (set c.args.self.now.ranks d c.args.rank)) same ∙ rank_set c.args.self.now.ranks c.args.decision c.args.rank (omega (arith, low, c.args.self.now.book.few)) in
+    let ranked = ap (λ (d : ℕ). from_bytes (set c.args.self.now.ranks d c.args.rank)) (c.from.ensures ∙ same) ∙ rank_set c.args.self.now.ranks c.args.decision c.args.rank (omega (arith, low, c.args.self.now.book.few)) in
     record { value = told; after = parts_same _ (leaves m a (rank c.args.decision c.args.rank)) refl ranked refl refl refl refl ∙ left }

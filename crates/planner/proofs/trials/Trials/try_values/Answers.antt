@@ -23,11 +23,11 @@ loop-v-preserved g c =
     let room : d < length c.loop-v.trial = omega arith in
     record {
       most = omega arith;
-      wide = length-set c.loop-v.trial d v ∙ inv.wide;
-      but = but_set c.loop-v.trial c.args.plan.now d v inv.but;
+      wide = length-set c.loop-v.trial c.from.result v ∙ inv.wide;
+      but = rw c.from.ensures (but_set c.loop-v.trial c.args.plan.now d v inv.but);
       tried =
           tried_at g.M.Measure.meaning (book_of c.args.self.now.book.now) c.args.self.now.best (from_bytes c.args.plan.now) (exclusions_of c.args.exclusions.now) d v (from_bytes (set c.loop-v.trial d v))
-          (exclusions_of c.loop-v.exclusions) (exclusions_of c.try_value.new.exclusions) c.loop-v.auto.v (but_choose c.loop-v.trial c.args.plan.now d v room inv.but) inv.tried c.try_value.ensures;
+          (exclusions_of c.loop-v.exclusions) (exclusions_of c.try_value.new.exclusions) c.loop-v.auto.v (but_choose c.loop-v.trial c.args.plan.now d v room inv.but) inv.tried (rw c.from.ensures at c.try_value.ensures);
     }
 
 pub returns-2 : goal.returns-2
@@ -38,5 +38,5 @@ returns-2 g c =
     let room : d < length c.loop-v.trial = omega arith in
     let last : v + 1 - 1 ≡ c.args.self.now.domain.size = omega arith in
     tried_at g.M.Measure.meaning (book_of c.args.self.now.book.now) c.args.self.now.best (from_bytes c.args.plan.now) (exclusions_of c.args.exclusions.now) d v (from_bytes (set c.loop-v.trial d v))
-    (exclusions_of c.loop-v.exclusions) (exclusions_of c.try_value.new.exclusions) c.loop-v.auto.v (but_choose c.loop-v.trial c.args.plan.now d v room inv.but) inv.tried c.try_value.ensures
+    (exclusions_of c.loop-v.exclusions) (exclusions_of c.try_value.new.exclusions) c.loop-v.auto.v (but_choose c.loop-v.trial c.args.plan.now d v room inv.but) inv.tried (rw c.from.ensures at c.try_value.ensures)
     ∙ ap (tried_to g.M.Measure.meaning (book_of c.args.self.now.book.now) c.args.self.now.best (from_bytes c.args.plan.now) (exclusions_of c.args.exclusions.now) d) last
