@@ -7,7 +7,7 @@ ghost use Rattle.rules.specs.Conditions.{from_bytes};
 ghost use Rattle.rules.specs.Plans.{cost, is_lawful};
 ghost use Rattle.sets.specs.Members.{members};
 ghost use Rattle.planner.specs.Books.{book_of};
-ghost use Rattle.planner.specs.Bests.{best_of, unless_told};
+ghost use Rattle.planner.specs.Bests.{best_of};
 
 use crate::best::Best;
 use crate::book::Book;
@@ -73,11 +73,4 @@ fn judges_lawful(book: &Book, plan: &[u8; 64]) -> bool
         book.rows(Kind::Activate),
         plan,
     )
-}
-
-/// The best, unless a forbid rule is met.
-pub fn best_unless<M: Measure>(met: bool, held: Option<Best<M>>) -> Option<Best<M>>
-    ensures { option_map best_of result ≡ unless_told met (option_map best_of held) }
-{
-    held.filter(|_| !met)
 }

@@ -7,7 +7,7 @@ ghost use Rattle.planner.specs.Bests.{unless_told};
 ghost use Rattle.planner.specs.Planners.{account_of};
 
 use crate::planner::Planner;
-use crate::weighing::{best_unless, repriced_best, still_lawful};
+use crate::weighing::{repriced_best, still_lawful};
 use account::State;
 use measure::Measure;
 use rules::{Kind, Refusal, Row, Rule, check_row};
@@ -77,8 +77,9 @@ impl<M: Measure> Planner<M> {
     fn reopen_forbidding(&mut self, met: bool)
         ensures { account_of self.new ≡ reopened (account_of self.old) (account_of self.old).book (unless_told met (account_of self.old).best) (λ e. not met || not e.rests) }
     {
-        let held = self.best;
-        self.best = best_unless(met, held);
+        if met {
+            self.best = None;
+        }
         self.reopen(!met);
     }
 
@@ -94,8 +95,7 @@ impl<M: Measure> Planner<M> {
     fn reopen_rejudged(&mut self)
         ensures { account_of self.new ≡ reopened (account_of self.old) (account_of self.old).book (if_lawful (account_of self.old).book (account_of self.old).best) (λ e. false) }
     {
-        let held = self.best;
-        self.best = still_lawful(&self.book, held);
+        self.best = still_lawful(&self.book, self.best);
         self.reopen_afresh();
     }
 
@@ -103,8 +103,7 @@ impl<M: Measure> Planner<M> {
     fn reopen_repriced(&mut self, resting: bool)
         ensures { account_of self.new ≡ reopened (account_of self.old) (account_of self.old).book (repriced M.meaning (account_of self.old).book.prices (account_of self.old).best) (λ e. resting || not e.rests) }
     {
-        let held = self.best;
-        self.best = repriced_best(&self.book, held, &mut self.costs);
+        self.best = repriced_best(&self.book, self.best, &mut self.costs);
         self.reopen(resting);
     }
 }
