@@ -3,7 +3,7 @@ ghost use Rattle.std.specs.Prelude.{◌≡◌, ◌-◌, ◌≤◌, ◌++◌, len
 ghost use Rattle.rules.specs.Compose.{ascends, blank, compose_refusal, composed};
 ghost use Rattle.rules.specs.Refusals.{as_result};
 
-use crate::{Kind, Literal, Refusal, Row, padded};
+use crate::{Kind, Literal, MOST_PAIRS, Refusal, Row, padded};
 use measure::Price;
 
 /// The most cents that a price rule may state.
@@ -20,7 +20,7 @@ fn ascend(pairs: &[Literal]) -> bool
 pub fn check(kind: Kind, pairs: &[Literal], price: Price) -> Result<(), Refusal>
     ensures { result ≡ as_result (compose_refusal kind pairs.now price) }
 {
-    if !(1..=4).contains(&pairs.len()) {
+    if !(1..=MOST_PAIRS).contains(&pairs.len()) {
         return Err(Refusal::PairCount);
     }
     if !ascend(pairs) {

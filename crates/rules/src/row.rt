@@ -29,6 +29,7 @@ pub struct Row {
     pub price: Price,
 }
 
+// Three calls: the definition that each meets has a name of its own.
 impl Kind {
     /// Whether this is the kind of forbid rules.
     pub fn is_forbid(self) -> bool
