@@ -3,7 +3,8 @@ ghost use Rattle.std.specs.Prelude.{◌≡◌, ◌-◌, ◌≤◌, ◌++◌, len
 ghost use Rattle.rules.specs.Compose.{ascends, blank, compose_refusal, composed};
 ghost use Rattle.rules.specs.Refusals.{as_result};
 
-use crate::{Kind, Literal, MOST_PAIRS, Refusal, Row, padded};
+use crate::padding::padded;
+use crate::{Kind, Literal, MOST_PAIRS, Refusal, Row};
 use measure::Price;
 
 /// The most cents that a price rule may state.

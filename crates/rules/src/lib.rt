@@ -25,7 +25,6 @@ pub use counting::{ActivateKind, Counting, EachRow};
 pub use decision::Decision;
 pub use judging::judge;
 pub use literal::{Literal, value_of};
-pub use padding::padded;
 pub use refusal::{Layer, Refusal};
 pub use row::{Kind, Row};
 pub use rule::Rule;
