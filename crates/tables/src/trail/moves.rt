@@ -12,7 +12,7 @@ use arrayvec::ArrayVec;
 use rules::MOST_DECISIONS;
 use sets::DecisionSet;
 
-// Of casts in this file: an index is as plain by `as` as by `usize::from`.
+// Casts in this file: an index by `usize::from` was tried, and the proofs then need a step more.
 
 impl Trail {
     /// The trail with no entry.
@@ -35,8 +35,7 @@ impl Trail {
 
     /// The value of each decision on the trail, 0 for the others.
     pub fn plan(&self) -> &[u8; MOST_DECISIONS]
-        ensures value { from_bytes result.now ≡ chosen (trail_of self.now) }
-        ensures long { length result.now ≡ 64 }
+        ensures { from_bytes result.now ≡ chosen (trail_of self.now) }
     {
         &self.values
     }
