@@ -34,6 +34,7 @@ pub trait Measure: Copy {
         ensures { result ≡ meaning.joins self other };
 
     /// Whether this cost is at most the other.
+    // Not by `Ord`: a measure's order is its own, and `Ord` would ask for a `cmp` beside it.
     fn at_most(self, other: Self) -> bool
         ensures { result ≡ meaning.at_most self other };
 

@@ -13,6 +13,7 @@ fn marked(decisions: &[Decision]) -> DecisionSet
     requires { length decisions.now ≤ 64 }
     ensures { members result ≡ on_at decisions.now }
 {
+    // `zip` with bytes, since `enumerate` counts in `usize`; so it is in `check_each`.
     (0..64u8)
         .zip(decisions)
         .filter(|(_, decision)| decision.on)

@@ -8,6 +8,12 @@ use crate::{Decision, Literal, Refusal, Row};
 /// The most decisions that a book may have.
 pub const MOST_DECISIONS: usize = 64;
 
+/// The most rules of one kind that a planner may hold.
+pub const MOST_RULES: usize = 256;
+
+/// The most pairs that a rule may have.
+pub const MOST_PAIRS: usize = 4;
+
 /// The most values that a decision may have.
 pub const MOST_VALUES: u8 = 16;
 

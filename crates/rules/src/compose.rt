@@ -3,7 +3,8 @@ ghost use Rattle.std.specs.Prelude.{◌≡◌, ◌-◌, ◌≤◌, ◌++◌, len
 ghost use Rattle.rules.specs.Compose.{ascends, blank, compose_refusal, composed};
 ghost use Rattle.rules.specs.Refusals.{as_result};
 
-use crate::{Kind, Literal, Refusal, Row, padded};
+use crate::padding::padded;
+use crate::{Kind, Literal, MOST_PAIRS, Refusal, Row};
 use measure::Price;
 
 /// The most cents that a price rule may state.
@@ -20,7 +21,7 @@ fn ascend(pairs: &[Literal]) -> bool
 pub fn check(kind: Kind, pairs: &[Literal], price: Price) -> Result<(), Refusal>
     ensures { result ≡ as_result (compose_refusal kind pairs.now price) }
 {
-    if !(1..=4).contains(&pairs.len()) {
+    if !(1..=MOST_PAIRS).contains(&pairs.len()) {
         return Err(Refusal::PairCount);
     }
     if !ascend(pairs) {

@@ -19,13 +19,12 @@ mod tests;
 mod verdict;
 
 pub use active::enabled;
-pub use checks::{MOST_DECISIONS, MOST_VALUES, check_decisions, check_row};
+pub use checks::{MOST_DECISIONS, MOST_PAIRS, MOST_RULES, MOST_VALUES, check_decisions, check_row};
 pub use choices::check_choices;
 pub use counting::{ActivateKind, Counting, EachRow};
 pub use decision::Decision;
 pub use judging::judge;
 pub use literal::{Literal, value_of};
-pub use padding::padded;
 pub use refusal::{Layer, Refusal};
 pub use row::{Kind, Row};
 pub use rule::Rule;

@@ -23,5 +23,5 @@ pub fn value_of(plan: &[u8], decision: u8) -> u8
     ensures { result ≡ from_bytes plan.now decision }
 {
     // 0, and no `Option`: in a plan 0 is what a decision has that is not chosen, and past its end none is.
-    plan.get(decision as usize).copied().unwrap_or(0)
+    plan.get(usize::from(decision)).copied().unwrap_or(0)
 }

@@ -54,6 +54,7 @@ impl Refusal {
     pub fn number(self) -> u8
         ensures { result ≡ number_of self }
     {
+        // By a cast: the numbers are those that the definition gives its cases.
         self as u8
     }
 
@@ -69,7 +70,14 @@ impl Refusal {
             | Refusal::DecisionAfterRule
             | Refusal::BookTooLarge
             | Refusal::ShortText => Layer::Text,
-            _ => Layer::Planner,
+            Refusal::TooManyDecisions
+            | Refusal::SizeOutOfRange
+            | Refusal::UnknownDecision
+            | Refusal::UnknownValue
+            | Refusal::TableFull
+            | Refusal::NoSuchRule
+            | Refusal::BudgetTooLarge
+            | Refusal::ShortPlan => Layer::Planner,
         }
     }
 }

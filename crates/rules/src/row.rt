@@ -3,7 +3,7 @@ ghost use Rattle.std.specs.Prelude.{◌≡◌};
 ghost use Rattle.rules.specs.Compose.{is_forbid, is_activate, is_price};
 ghost use Rattle.rules.specs.Conditions.{condition, meets, met, from_bytes};
 
-use crate::Literal;
+use crate::{Literal, MOST_PAIRS};
 use measure::Price;
 
 /// The kinds of rule.
@@ -24,11 +24,12 @@ pub enum Kind {
 pub struct Row {
     pub kind: Kind,
     pub count: u8,
-    pub pairs: [Literal; 4],
+    pub pairs: [Literal; MOST_PAIRS],
     pub target: u8,
     pub price: Price,
 }
 
+// Three calls: the definition that each meets has a name of its own.
 impl Kind {
     /// Whether this is the kind of forbid rules.
     pub fn is_forbid(self) -> bool
@@ -57,7 +58,7 @@ impl Row {
     pub fn condition(&self) -> &[Literal]
         ensures { result.now ≡ condition self.now }
     {
-        let count = usize::from(self.count).min(4);
+        let count = usize::from(self.count).min(MOST_PAIRS);
         &self.pairs[0..count]
     }
 

@@ -9,13 +9,16 @@ ghost use Rattle.scans.specs.Suffixes.{Suffixes, priced};
 
 use crate::names::named;
 use measure::Measure;
-use rules::Row;
+use rules::{MOST_RULES, Row};
 use sets::DecisionSet;
+
+/// One place more than there can be rules.
+const PLACES: usize = MOST_RULES + 1;
 
 /// What the price rules from each place on cost a plan; past the last stands neutral.
 #[derive(Drop)]
 pub struct SuffixCosts<M> {
-    after: [M; 257],
+    after: [M; PLACES],
 }
 
 impl<M: Measure> SuffixCosts<M> {
@@ -24,7 +27,7 @@ impl<M: Measure> SuffixCosts<M> {
         ensures { (p : Plan) → Suffixes M.meaning [] p result.after 0 }
     {
         SuffixCosts {
-            after: [M::neutral(); 257],
+            after: [M::neutral(); PLACES],
         }
     }
 

@@ -13,6 +13,7 @@ pub struct DecisionSet {
 
 impl DecisionSet {
     /// The set of no decision.
+    // Not `default`: `empty` promises that there are no members.
     pub fn empty() -> DecisionSet
         ensures { members result ≡ (λ x. false) }
     {

@@ -1,5 +1,6 @@
 //! Small sets of decisions and of values, a bit for each.
-//! Two types: one generic one, that counts from 0 or from 1 in a word of either size, shares four methods and is longer.
+//! Two types: one generic one, that counts from 0 or from 1 in a word of either size, shares four methods and is
+//! longer.
 #![tactic(auto)]
 
 mod decision_set;

@@ -20,6 +20,7 @@ fn is_value(v: u8) -> bool
 
 impl ValueSet {
     /// The set of no value.
+    // Not `default`: `empty` promises that there are no members.
     pub fn empty() -> ValueSet
         ensures { values result ≡ (λ x. false) }
     {

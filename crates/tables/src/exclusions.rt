@@ -8,6 +8,7 @@ ghost use Rattle.sets.specs.Members.{members, values};
 ghost use Rattle.tables.specs.Excluded.{as_exclusion, cell_of, exclusions_of, spared, unless_meets};
 
 use crate::{Choice, Domain};
+use rules::MOST_DECISIONS;
 use sets::{DecisionSet, ValueSet};
 
 /// For each of 64 decisions its excluded values, which of them rest on the best, and the reason of each: that of value
@@ -15,15 +16,15 @@ use sets::{DecisionSet, ValueSet};
 #[derive(Drop)]
 // Three arrays side by side: sets of 16 bits and one table of words of 64 bits are the form that is wanted here.
 pub struct Exclusions {
-    excluded: [ValueSet; 64],
-    resting: [ValueSet; 64],
+    excluded: [ValueSet; MOST_DECISIONS],
+    resting: [ValueSet; MOST_DECISIONS],
     reasons: [u64; 1024],
 }
 
-// Of casts in this file: an index by `usize::from` was tried, and is no plainer where five proofs then need a step more.
+// Casts in this file: an index by `usize::from` was tried, and proofs then need a step more.
 
-/// Which exclusions stay: those whose reason has no barred decision, and unless `resting` only those that do not rest on
-/// the best.
+/// Which exclusions stay: those whose reason has no barred decision, and unless `resting` only those that do not rest
+/// on the best.
 #[derive(Clone, Copy)]
 struct Sparing {
     barred: DecisionSet,
@@ -68,8 +69,8 @@ impl Exclusions {
         ensures { exclusions_of result ≡ (λ d v. None) }
     {
         Exclusions {
-            excluded: [ValueSet::empty(); 64],
-            resting: [ValueSet::empty(); 64],
+            excluded: [ValueSet::empty(); MOST_DECISIONS],
+            resting: [ValueSet::empty(); MOST_DECISIONS],
             reasons: [0; 1024],
         }
     }
@@ -78,7 +79,7 @@ impl Exclusions {
     pub fn clear(&mut self)
         ensures { exclusions_of self.new ≡ (λ d v. None) }
     {
-        self.excluded = [ValueSet::empty(); 64];
+        self.excluded = [ValueSet::empty(); MOST_DECISIONS];
     }
 
     /// The reason of an excluded value, and whether it rests on the best.
@@ -125,6 +126,7 @@ impl Exclusions {
     pub fn reasons_of(&self, domain: Domain) -> DecisionSet
         ensures { members result ≡ reasons (exclusions_of self.now domain.decision) domain.size }
     {
+        // `1..=size` was tried: what such a range gives is not known to a chain's proof.
         (1..domain.size + 1).fold(
             DecisionSet::empty(),
             |all, v| self.with_reason(all, domain.decision, v),
@@ -179,6 +181,7 @@ impl Exclusions {
         // By number: `spared_values` reads all three arrays, so none of them can be lent for writing meanwhile.
         for d in 0..64u8 {
             let at = d as usize;
+            // By its bits, so that a decision with nothing excluded is passed by at once.
             if self.excluded[at].bits != 0 {
                 self.excluded[at] = self.spared_values(d, sparing);
             }

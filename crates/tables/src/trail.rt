@@ -5,6 +5,7 @@ ghost use Rattle.tables.specs.Entries.{newest_first, proper};
 
 use crate::Entry;
 use arrayvec::ArrayVec;
+use rules::MOST_DECISIONS;
 
 mod moves;
 
@@ -12,9 +13,9 @@ mod moves;
 /// not on the trail.
 #[derive(Drop)]
 pub struct Trail {
-    entries: ArrayVec<Entry, 64>,
+    entries: ArrayVec<Entry, MOST_DECISIONS>,
     /// Kept beside the entries, since every step reads the plan.
-    values: [u8; 64],
+    values: [u8; MOST_DECISIONS],
     ghost distinct: { proper (newest_first entries.items) ≡ true },
     ghost planned: { ((d : ℕ) → slice_index values d ≡ chosen (newest_first entries.items) d) },
 }

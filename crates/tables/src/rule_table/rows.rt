@@ -51,7 +51,7 @@ impl RuleTable {
         self.rows.push(shaped.row);
     }
 
-    /// Takes a rule out; those behind it move up by one place.
+    /// Takes a rule out; those behind it move down by one.
     // That the place is there is asked for: a number that kept it would have to borrow the table that is changed.
     pub fn remove(&mut self, place: usize)
         requires { place < length (table_rows self.old) }

@@ -9,9 +9,10 @@ ghost use Rattle.tables.specs.Trails.{trail_of};
 
 use crate::{Choice, Entry, Retreat, Trail};
 use arrayvec::ArrayVec;
+use rules::MOST_DECISIONS;
 use sets::DecisionSet;
 
-// Of casts in this file: an index is as plain by `as` as by `usize::from`.
+// Casts in this file: an index by `usize::from` was tried, and the proofs then need a step more.
 
 impl Trail {
     /// The trail with no entry.
@@ -20,7 +21,7 @@ impl Trail {
     {
         Trail {
             entries: ArrayVec::new(),
-            values: [0; 64],
+            values: [0; MOST_DECISIONS],
         }
     }
 
@@ -29,13 +30,12 @@ impl Trail {
         ensures { trail_of self.new ≡ [] }
     {
         self.entries.clear();
-        self.values = [0; 64];
+        self.values = [0; MOST_DECISIONS];
     }
 
     /// The value of each decision on the trail, 0 for the others.
-    pub fn plan(&self) -> &[u8; 64]
-        ensures value { from_bytes result.now ≡ chosen (trail_of self.now) }
-        ensures long { length result.now ≡ 64 }
+    pub fn plan(&self) -> &[u8; MOST_DECISIONS]
+        ensures { from_bytes result.now ≡ chosen (trail_of self.now) }
     {
         &self.values
     }
@@ -78,7 +78,11 @@ impl Trail {
 
 /// Takes the entry at a place out, with every later one whose support has a decision that leaves. The others move up,
 /// and what leaves has the value 0. Answers how many stay, and the decisions that left.
-fn sweep(entries: &mut [Entry], values: &mut [u8; 64], at: usize) -> (usize, DecisionSet)
+fn sweep(
+    entries: &mut [Entry],
+    values: &mut [u8; MOST_DECISIONS],
+    at: usize,
+) -> (usize, DecisionSet)
     requires within { at < length entries.old }
     requires distinct { proper (newest_first entries.old) ≡ true }
     ensures few { result.0 ≤ length entries.old }
