@@ -29,9 +29,11 @@ pub struct Outcome<'a> {
 fn first_word(state: State, best: bool) -> &'static [u8]
     ensures { result.now ≡ outcome_word state best }
 {
-    match state {
-        State::Open => b"open",
-        State::Settled => { if best { b"settled" } else { b"none" } }
+    // The words again: `Display` writes to a formatter, and this to a sink.
+    match (state, best) {
+        (State::Open, _) => b"open",
+        (State::Settled, true) => b"settled",
+        (State::Settled, false) => b"none",
     }
 }
 
