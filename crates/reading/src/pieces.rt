@@ -12,8 +12,8 @@ pub struct Piece<'a> {
     pub column: usize,
 }
 
-/// The pieces of a text that are still to come: those from a place on. Where none is left the place is one past the end,
-/// and no `Option`: the column is asked for there too, to tell where a piece is missing.
+/// The pieces of a text that are still to come: those from a place on. Where none is left the place is one past the
+/// end, and no `Option`: the column is asked for there too, to tell where a piece is missing.
 #[derive(Clone, Copy)]
 pub struct Pieces<'a> {
     text: &'a [u8],

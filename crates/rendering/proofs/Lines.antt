@@ -17,7 +17,7 @@ ended_append [] ls = refl
 ended_append (k ∷ ks) ls = ap (λ (t : List ℕ). k ++ 10 ∷ t) (ended_append ks ls) ∙ sym (append_assoc k (10 ∷ ended ks) (ended ls))
 
 -- fields behind fields
-pub spaced_append : (es fs : List (List ℕ)) → spaced (es ++ fs) ≡ spaced es ++ spaced fs
+spaced_append : (es fs : List (List ℕ)) → spaced (es ++ fs) ≡ spaced es ++ spaced fs
 spaced_append [] fs = refl
 spaced_append (e ∷ es) fs = ap (λ (t : List ℕ). 32 ∷ (e ++ t)) (spaced_append es fs) ∙ ap (λ (t : List ℕ). 32 ∷ t) (sym (append_assoc e (spaced es) (spaced fs)))
 
@@ -27,7 +27,7 @@ ended_each f [] = refl
 ended_each f (x ∷ xs) = ap (λ (t : List ℕ). (f x ++ 10 ∷ []) ++ t) (ended_each f xs) ∙ append_assoc (f x) (10 ∷ []) (ended (map f xs))
 
 -- a field for each item
-pub spaced_each : {X : Type 0} (f : X → List ℕ) (xs : List X) → flat_map (λ x. 32 ∷ f x) xs ≡ spaced (map f xs)
+spaced_each : {X : Type 0} (f : X → List ℕ) (xs : List X) → flat_map (λ x. 32 ∷ f x) xs ≡ spaced (map f xs)
 spaced_each f [] = refl
 spaced_each f (x ∷ xs) = ap (λ (t : List ℕ). 32 ∷ (f x ++ t)) (spaced_each f xs)
 

@@ -12,7 +12,7 @@ impl Text for bool {
 
     /// The word of a mark.
     fn put<S: Sink>(&self, sink: &mut S) {
-        sink.word(if *self { "on" } else { "off" });
+        sink.word(if *self { b"on" } else { b"off" });
     }
 }
 

@@ -14,9 +14,9 @@ impl Text for Layer {
     /// The word of a layer.
     fn put<S: Sink>(&self, sink: &mut S) {
         sink.word(match *self {
-            Layer::Text => "text",
-            Layer::Rule => "rule",
-            Layer::Planner => "planner",
+            Layer::Text => b"text",
+            Layer::Rule => b"rule",
+            Layer::Planner => b"planner",
         });
     }
 }
@@ -27,7 +27,7 @@ impl Text for Fault {
     /// The refusal, and the line and column that it falls on.
     #[tactic(auto, unfolding(crate::specs::Texts::fault_line))]
     fn put<S: Sink>(&self, sink: &mut S) {
-        sink.word("refused");
+        sink.word(b"refused");
         put_field(sink, &u64::from(self.refusal.number()));
         put_field(sink, &self.refusal.layer());
         put_field(sink, &self.line);

@@ -26,12 +26,14 @@ pub struct Outcome<'a> {
 }
 
 /// The first word of an outcome, by whether a best is held. Two values say it, so it is the text of neither.
-fn first_word(state: State, best: bool) -> &'static str
+fn first_word(state: State, best: bool) -> &'static [u8]
     ensures { result.now ≡ outcome_word state best }
 {
-    match state {
-        State::Open => "open",
-        State::Settled => { if best { "settled" } else { "none" } }
+    // The words again: `Display` writes to a formatter, and this to a sink.
+    match (state, best) {
+        (State::Open, _) => b"open",
+        (State::Settled, true) => b"settled",
+        (State::Settled, false) => b"none",
     }
 }
 

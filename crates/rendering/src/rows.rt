@@ -42,6 +42,7 @@ impl Text for Literal {
     /// A space and the pair.
     #[tactic(auto, unfolding(crate::specs::Texts::pair_text))]
     fn put<S: Sink>(&self, sink: &mut S) {
+        // The pair again: `Display` writes to a formatter, and this to a sink.
         put_field(sink, &u64::from(self.decision));
         sink.byte(b'=');
         sink.number(u64::from(self.value));

@@ -39,13 +39,13 @@ impl KnownLine<'_> {
     pub fn check_fields(&self) -> Result<(), Fault>
         ensures { result ≡ unless (option_map (fault FieldCount self.now.line.number) (field_fault self.now.kind self.now.line.ended self.now.line.bytes.now)) (Ok tt) }
     {
-        match self.faulty_column() {
-            Some(column) => Err(Fault {
+        if let Some(column) = self.faulty_column() {
+            return Err(Fault {
                 refusal: Refusal::FieldCount,
                 line: self.line.number,
                 column,
-            }),
-            None => Ok(()),
+            });
         }
+        Ok(())
     }
 }

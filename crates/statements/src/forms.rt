@@ -18,7 +18,7 @@ fn is_mark(word: &str, field: &[u8]) -> bool
     }
 }
 
-/// The mark that a field is.
+/// The mark that a field is. By `if`: `is_mark` is the match that is asked for.
 pub fn mark_of(field: &[u8]) -> Option<bool>
     ensures { result ≡ mark_of field.now }
 {

@@ -16,6 +16,7 @@ impl TryFrom<char> for LineKind {
 
     /// The kind that a line's first letter stands for.
     fn try_from(letter: char) -> Result<LineKind, Refusal> {
+        // The letters again: a match on characters is asked for.
         match letter {
             'D' => Ok(LineKind::Decision),
             'F' => Ok(LineKind::Forbid),

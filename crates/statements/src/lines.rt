@@ -9,7 +9,7 @@ mod giving;
 #[derive(Clone, Copy)]
 pub struct Lines<'a> {
     pieces: Pieces<'a>,
-    /// How many lines came before.
+    /// How many lines came before. Counted here: `enumerate` would hide whether a piece is left behind a line.
     given: usize,
     ghost fewer: { given ≤ pieces.place },
 }

@@ -27,6 +27,7 @@ fn read_rule(fields: Fields, kind: Kind, target: u8, price: Price) -> Result<Sta
     let line = fields.line();
     let pairs = fields.pairs()?;
     let count = pairs.as_slice().len();
+    // Counted here too: `read_line` refuses it by itself, before a rule is composed.
     if !(1..=4).contains(&count) {
         return Err(Fault::at_line(Refusal::PairCount, line));
     }
@@ -81,6 +82,7 @@ fn read_fields(known: &KnownLine) -> Result<Statement, Fault>
 /// What a line states. Refuses, in this order: a line of no kind, a decision after a rule (`began` says if one came
 /// before), fields that are empty, too many or missing or a missing end, a field not of its form, pairs that are
 /// missing or more than four.
+// A flag, as this call and the definition that it is held to are to take it.
 #[tactic(auto, unfolding(crate::specs::Statements::read_line))]
 pub fn read_line(line: &Line, began: bool) -> Result<Statement, Fault>
     ensures { on_ok stated_of result ≡ read_line began (line_of line.now) }

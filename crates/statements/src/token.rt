@@ -11,7 +11,7 @@ use crate::forms::{byte_of, mark_of, pair_of};
 use reading::number;
 use rules::{Literal, Refusal};
 
-/// A field, by the form that its place asks for.
+/// A field, by the form that its place asks for. Tokens, since each is to be the part of the text that it occupies.
 #[derive(Clone, Copy, Debug, PartialEq, Eq)]
 pub enum Token<'a> {
     Number(&'a [u8]),

@@ -4,8 +4,8 @@ ghost use Rattle.writing.specs.Sinks.{stored};
 
 use crate::Sink;
 
-/// A buffer that is filled from its start, with the place of the next byte beside, since the buffer is lent and there is
-/// no heap for a vector. One that is full takes no more.
+/// A buffer that is filled from its start, with the place of the next byte beside, since the buffer is lent and there
+/// is no heap for a vector. One that is full takes no more.
 #[derive(Drop)]
 pub struct Filler<'a> {
     buffer: &'a mut [u8],

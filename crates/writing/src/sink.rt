@@ -11,11 +11,11 @@ pub trait Sink {
         ensures { self.new ≡ after self.old byte };
 
     /// Takes the bytes of a word.
-    final fn word(&mut self, word: &str)
+    final fn word(&mut self, word: &[u8])
         ensures { self.new ≡ fold after self.old word.now }
     {
-        for byte in word.bytes() {
-            self.byte(byte);
+        for byte in word {
+            self.byte(*byte);
         }
     }
 
