@@ -10,11 +10,8 @@ use crate::planner::Planner;
 use crate::weighing::{repriced_best, still_lawful};
 use account::State;
 use measure::Measure;
-use rules::{Kind, Refusal, Row, Rule, check_row};
+use rules::{Kind, MOST_RULES, Refusal, Row, Rule, check_row};
 use tables::ShapedRow;
-
-/// The most rules of one kind.
-const MOST_RULES: usize = 256;
 
 impl<M: Measure> Planner<M> {
     /// Puts a rule last of its kind, and keeps what still holds. Refuses an unknown decision in its pairs or target,
