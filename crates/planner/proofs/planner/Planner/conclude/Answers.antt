@@ -10,4 +10,4 @@ pub returns : goal.returns
 returns g c =
     c.retreat.ensures
     ∙ concluded g.M.Measure.meaning (account_of c.args.self.now) 0 (from_bytes c.plan-plan.result.now) (best_of c.weigh-best.result.0) (members c.weigh-best.result.1)
-    c.plan-plan.ensures.value c.weigh-best.ensures.best c.weigh-best.ensures.blame
+    c.plan-plan.ensures c.weigh-best.ensures.best c.weigh-best.ensures.blame

@@ -17,7 +17,7 @@ pub returns-in-Some : goal.returns-in-Some
 returns-in-Some g c =
     let d = c.args.domain in
     entered g.M.Measure.meaning (account_of c.args.self.now) d.decision d.size c.best_cost-best.result (from_bytes c.plan-plan.result.now) (exclusions_of c.try_values.new.exclusions)
-    c.requires.known.0 c.best_cost-best.ensures c.plan-plan.ensures.value c.try_values.ensures c.in-Some.value (members c.support_of-support.result) (trail_of c.push.new.self)
+    c.requires.known.0 c.best_cost-best.ensures c.plan-plan.ensures c.try_values.ensures c.in-Some.value (members c.support_of-support.result) (trail_of c.push.new.self)
     c.support_of-support.ensures c.in-Some.ensures c.push.ensures
 
 pub returns-in-None : goal.returns-in-None
@@ -25,5 +25,5 @@ returns-in-None g c =
     let d = c.args.domain in
     c.retreat.ensures
     ∙ stuck g.M.Measure.meaning (account_of c.args.self.now) d.decision d.size c.best_cost-best.result (from_bytes c.plan-plan.result.now) (exclusions_of c.try_values.new.exclusions)
-    c.requires.known.0 c.best_cost-best.ensures c.plan-plan.ensures.value c.try_values.ensures (members c.support_of-support.result) (members c.reasons_of.result) (members c.union-blamed.result)
+    c.requires.known.0 c.best_cost-best.ensures c.plan-plan.ensures c.try_values.ensures (members c.support_of-support.result) (members c.reasons_of.result) (members c.union-blamed.result)
     c.any_rests-rests.result c.support_of-support.ensures c.in-None.ensures c.reasons_of.ensures c.any_rests-rests.ensures c.union-blamed.ensures
