@@ -26,14 +26,14 @@ pub struct Outcome<'a> {
 }
 
 /// The first word of an outcome, by whether a best is held. Two values say it, so it is the text of neither.
-fn first_word(state: State, best: bool) -> &'static [u8]
+fn first_word(state: State, best: bool) -> &'static str
     ensures { result.now ≡ outcome_word state best }
 {
     // The words again: `Display` writes to a formatter, and this to a sink.
     match (state, best) {
-        (State::Open, _) => b"open",
-        (State::Settled, true) => b"settled",
-        (State::Settled, false) => b"none",
+        (State::Open, _) => "open",
+        (State::Settled, true) => "settled",
+        (State::Settled, false) => "none",
     }
 }
 
@@ -63,7 +63,7 @@ fn put_choices<S: Sink>(sink: &mut S, plan: &[u8])
 fn put_best<S: Sink>(sink: &mut S, state: State, cost: TierThenCents)
     ensures { sink.new ≡ fold S.after sink.old ((outcome_word state true ++ spaced (cost_fields cost)) ++ 10 ∷ []) }
 {
-    sink.word(first_word(state, true));
+    sink.word(first_word(state, true).as_bytes());
     put_field(sink, &u64::from(cost.first.level));
     put_field(sink, &cost.second.sum);
     sink.byte(LINE_END);

@@ -35,7 +35,7 @@ impl<'a> Text for Outcome<'a> {
                 put_choices(sink, best.plan);
             }
             None => {
-                sink.word(first_word(self.state, false));
+                sink.word(first_word(self.state, false).as_bytes());
                 sink.byte(LINE_END);
             }
         }
