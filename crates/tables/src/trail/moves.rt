@@ -35,7 +35,7 @@ impl Trail {
 
     /// The value of each decision on the trail, 0 for the others.
     pub fn plan(&self) -> &[u8; MOST_DECISIONS]
-        ensures value { from_bytes result.now ≡ chosen (trail_of self.now) }
+        ensures { from_bytes result.now ≡ chosen (trail_of self.now) }
     {
         &self.values
     }
