@@ -12,6 +12,7 @@ pub struct Ran {
     pub state: State,
 }
 
+// By hand: its contract tells what it gives; a closure in its place would tell nothing of the steps.
 impl From<(u32, State)> for Ran {
     ghost from_gives = { λ answer ran. (ran.steps ≡ answer.0) × (ran.state ≡ answer.1) };
 
