@@ -25,6 +25,7 @@ fn open_with<M: Measure>(planner: &mut Planner<M>, decision: Decision) -> Result
     ensures after { account_of planner.new ≡ unless_refused (open_refusal ((account_of planner.old).book.decisions ++ decision ∷ [])) (account_of planner.old) (fresh ((account_of planner.old).book.decisions ++ decision ∷ [])) }
 {
     let mut decisions = ArrayVec::<Decision, ROOM>::new();
+    // Never refused: proved.
     decisions
         .try_extend_from_slice(planner.decisions())
         .unwrap();
@@ -42,6 +43,7 @@ fn add_rule<M: Measure>(planner: &mut Planner<M>, parts: &Parts) -> Result<(), R
 }
 
 /// Whether a rule line has come by now, this statement's line counted.
+// A flag, as `read_line` takes it.
 pub fn has_begun(began: bool, statement: &Statement) -> bool
     ensures { result ≡ (began || is_rule (stated_of statement.now)) }
 {

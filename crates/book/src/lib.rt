@@ -9,7 +9,7 @@ mod planning;
 mod texts;
 
 pub use exact::made_rules_are_exact;
-pub use loading::{MOST_BYTES, load};
+pub use loading::{MOST_BYTES, ROOM, load};
 pub use outcome::write_outcome;
 pub use planning::plan_book;
 pub use texts::{write, write_fault};

@@ -17,8 +17,12 @@ use statements::{Fault, Line, Lines, read_line};
 /// The most bytes that a book may have.
 pub const MOST_BYTES: usize = 65_536;
 
+/// One byte more than a book may have, so that one too large is seen.
+pub const ROOM: usize = MOST_BYTES + 1;
+
 /// Reads a line and carries out what it states. `began` is whether a rule line came before; the answer, whether one has
 /// come by now.
+// A flag, as `read_line` takes it.
 fn load_line<M: Measure>(planner: &mut Planner<M>, line: &Line, began: bool) -> Result<bool, Fault>
     ensures { on_ok (λ t. (t, account_of planner.new)) result ≡ line_step M.meaning began (account_of planner.old) (line_of line.now) }
 {
@@ -45,6 +49,7 @@ fn load_lines<M: Measure>(planner: &mut Planner<M>, text: &[u8]) -> Result<(), F
 fn clear<M: Measure>(planner: &mut Planner<M>)
     ensures { account_of planner.new ≡ fresh [] }
 {
+    // Never refused: proved.
     planner.open(&[]).unwrap();
 }
 

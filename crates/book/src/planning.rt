@@ -21,7 +21,9 @@ const STEPS: u32 = 100_000;
 fn run_long(planner: &mut Planner<TierThenCents>)
     ensures { account_of planner.new ≡ after_runs (pair_of tier cents) 100 100000 (account_of planner.old) }
 {
+    // `made` has its name for the proof, whose invariant counts by it.
     for made in 0..RUNS {
+        // Never refused, as proved; what it answers is not wanted.
         planner.run(STEPS).unwrap();
     }
 }

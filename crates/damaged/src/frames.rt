@@ -5,6 +5,7 @@ ghost use Rattle.std.specs.Prelude.{◌≤◌, length};
 use reading::{number, split_once};
 
 /// The largest number in a frame's first line.
+// Not the same limit as the input's: it is one of times too.
 const MOST: u32 = 131_072;
 
 /// A frame, and what follows it.

@@ -2,7 +2,7 @@
 #![tactic(auto)]
 
 use anyhow::anyhow;
-use book::{MOST_BYTES, load, write_fault};
+use book::{ROOM, load, write_fault};
 use frames::{Frames, repeat};
 use input::read_input;
 use measure::TierThenCents;
@@ -14,9 +14,6 @@ mod frames;
 /// Room for the frames on standard input.
 const INPUT: usize = 131_072;
 
-/// Room for the largest book and one byte more.
-const BOOK: usize = MOST_BYTES + 1;
-
 /// The most frames that are read.
 const FRAMES: usize = 1_000;
 
@@ -26,8 +23,8 @@ fn show(rt: &HostRuntime, planner: &mut Planner<TierThenCents>, book: &[u8]) -> 
     match load(planner, book) {
         Ok(()) => rt.println("accepted")?,
         Err(fault) => {
-            let length = write_fault(&fault, &mut line).map_err(|_| anyhow!(
-                "a fault is longer than its buffer"
+            let length = write_fault(&fault, &mut line).map_err(|refusal| anyhow!(
+                "a fault is longer than its buffer: {refusal}"
             ))?;
             rt.stdout().write_all(&line[0..length])?;
         }
@@ -38,7 +35,7 @@ fn show(rt: &HostRuntime, planner: &mut Planner<TierThenCents>, book: &[u8]) -> 
 /// Shows the book of each frame.
 fn show_all(rt: &HostRuntime, frames: &[u8]) -> anyhow::Result<()> {
     let mut planner = Planner::new();
-    let mut book = [0; BOOK];
+    let mut book = [0; ROOM];
     for frame in Frames(frames).take(FRAMES) {
         let text = repeat(frame.part, frame.times, &mut book);
         show(rt, &mut planner, text)?;

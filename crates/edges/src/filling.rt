@@ -13,6 +13,7 @@ const DECISIONS: [Decision; 2] = [
 ];
 
 /// The largest price.
+// Written out: taken from the constants, an edge would move with them.
 const DEAR: Price = Price {
     tier: 255,
     cents: 1_000_000_000,
@@ -25,6 +26,7 @@ fn dear(kind: Kind, decision: u8, value: u8) -> Result<Rule, Refusal> {
 
 /// Adds a rule 257 times, and prints the last two answers.
 fn fill(calls: &mut Calls<'_, impl Print, Cents>, what: &str, rule: &Rule) -> io::Result<()> {
+    // Written out: taken from the constants, an edge would move with them.
     for time in 1..=257u32 {
         let answer = done(calls.planner.add(rule));
         if time > 255 {

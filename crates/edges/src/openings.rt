@@ -6,9 +6,6 @@ use showing::done;
 use std::io;
 use worked::pair;
 
-/// A decision of one value.
-const ONE: Decision = Decision { size: 1, on: true };
-
 /// A decision of this size that is on.
 fn sized(size: u8) -> Decision {
     Decision { size, on: true }
@@ -16,9 +13,10 @@ fn sized(size: u8) -> Decision {
 
 /// Openings with many decisions, and with sizes small and large.
 pub fn openings(calls: &mut Calls<'_, impl Print, Cents>) -> io::Result<()> {
+    // Written out, here and below: taken from the constants, an edge would move with them.
     calls.open("with 0 decisions", &[])?;
-    calls.open("with 64 decisions", &[ONE; 64])?;
-    calls.open("with 65 decisions", &[ONE; 65])?;
+    calls.open("with 64 decisions", &[sized(1); 64])?;
+    calls.open("with 65 decisions", &[sized(1); 65])?;
     calls.open("with size 0", &[sized(0)])?;
     calls.open("with size 1", &[sized(1)])?;
     calls.open("with size 16", &[sized(16)])?;

@@ -10,14 +10,10 @@ use std::io::Read;
 pub fn read_input<'a>(rt: &HostRuntime, buffer: &'a mut [u8]) -> io::Result<&'a [u8]>
     ensures { IfOk result (λ text. length text.now ≤ length buffer.old) }
 {
-    let mut input = rt.stdin();
-    // A count beside the buffer: the input comes in parts, and with no heap there is nothing that grows by them.
-    let mut count = 0;
-    while count < buffer.len() {
-        match input.read(&mut buffer[count..])? {
-            0 => break,
-            more => count += more,
-        }
-    }
-    Ok(&buffer[0..count])
+    let mut input = rt.stdin().take(buffer.len() as u64);
+    let mut room = &mut buffer[..];
+    io::copy(&mut input, &mut room)?;
+    let left = room.len();
+    // Saturating: `copy` does not promise that a slice's room shrinks by what it is given, so a `-` did not close.
+    Ok(&buffer[..buffer.len().saturating_sub(left)])
 }

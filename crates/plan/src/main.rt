@@ -2,21 +2,18 @@
 #![tactic(auto)]
 
 use anyhow::anyhow;
-use book::{MOST_BYTES, plan_book};
+use book::{ROOM, plan_book};
 use input::read_input;
 use planner::Planner;
 use std::io::Write;
-
-/// Room for the largest book and one byte more, which tells that a book is too large.
-const ROOM: usize = MOST_BYTES + 1;
 
 fn main(rt: HostRuntime) -> anyhow::Result<()> {
     let mut buffer = [0; ROOM];
     let text = read_input(&rt, &mut buffer)?;
     let mut planner = Planner::new();
     let mut answer = [0; 1024];
-    let length = plan_book(&mut planner, text, &mut answer).map_err(|_| anyhow!(
-        "the plan is longer than its buffer"
+    let length = plan_book(&mut planner, text, &mut answer).map_err(|refusal| anyhow!(
+        "the plan is longer than its buffer: {refusal}"
     ))?;
     rt.stdout().write_all(&answer[0..length])?;
     Ok(())

@@ -7,6 +7,7 @@ use std::fmt::Display;
 use std::io;
 
 /// Asks for the best with a buffer.
+// Other words than the edges'.
 pub fn best<M: Measure + Display>(
     calls: &Calls<'_, impl Print, M>,
     buffer: &mut [u8],
@@ -23,6 +24,7 @@ pub fn best<M: Measure + Display>(
 }
 
 /// Asks for the exclusion of a value, and prints it if there is one.
+// Other words than the edges'.
 fn exclusion<M: Measure>(
     calls: &Calls<'_, impl Print, M>,
     decision: u8,
