@@ -3,6 +3,7 @@
 
 mod books;
 mod engine;
+mod placing;
 mod plain;
 
 use books::{Book, Random, Shape};
@@ -114,6 +115,7 @@ fn damaged_are_refused(r: &mut Random) -> bool {
 }
 
 fn main() {
+    placing::take_room();
     let words: Vec<String> = std::env::args().skip(1).collect();
     let seed = words.first().and_then(|w| w.parse().ok()).unwrap_or(1);
     let only = words.get(1).cloned();
