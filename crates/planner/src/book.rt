@@ -3,7 +3,7 @@ ghost use Rattle.std.specs.Prelude.{◌≡◌, ◌≤◌, true, length};
 ghost use Rattle.rules.specs.Judging.{sized};
 
 use arrayvec::ArrayVec;
-use rules::Decision;
+use rules::{Decision, MOST_DECISIONS};
 use tables::RuleTable;
 
 mod holding;
@@ -11,7 +11,7 @@ mod holding;
 /// Up to 64 decisions of 1 to 16 values, and the rules of each kind.
 #[derive(Drop)]
 pub struct Book {
-    decisions: ArrayVec<Decision, 64>,
+    decisions: ArrayVec<Decision, MOST_DECISIONS>,
     forbids: RuleTable,
     activates: RuleTable,
     prices: RuleTable,

@@ -8,7 +8,7 @@ ghost use Rattle.sets.specs.Members.{members};
 ghost use Rattle.planner.specs.Books.{IsDomain, book_of};
 
 use crate::book::Book;
-use rules::{Decision, EachRow, Kind, enabled, value_of};
+use rules::{Decision, EachRow, Kind, MOST_DECISIONS, enabled, value_of};
 use scans::enabler;
 use sets::DecisionSet;
 use tables::Domain;
@@ -30,7 +30,7 @@ fn is_waiting(decisions: &[Decision], targets: DecisionSet, plan: &[u8], decisio
 }
 
 /// The domain of the decision that a step picks: of those that wait, the one of lowest rank, then lowest number.
-pub fn pick_decision(book: &Book, ranks: &[u8; 64], plan: &[u8]) -> Option<Domain>
+pub fn pick_decision(book: &Book, ranks: &[u8; MOST_DECISIONS], plan: &[u8]) -> Option<Domain>
     ensures picked { option_map (λ d. d.decision) result ≡ pick (from_bytes ranks.now) (waits (book_of book.now) (from_bytes plan.now)) (length (book_of book.now).decisions) }
     ensures domain { IfSome result (IsDomain (book_of book.now)) }
 {

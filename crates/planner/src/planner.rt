@@ -2,6 +2,7 @@
 use crate::best::Best;
 use crate::book::Book;
 use account::State;
+use rules::MOST_DECISIONS;
 use scans::SuffixCosts;
 use tables::{Exclusions, Trail};
 
@@ -13,7 +14,7 @@ mod steps;
 #[derive(Drop)]
 pub struct Planner<M> {
     book: Book,
-    ranks: [u8; 64],
+    ranks: [u8; MOST_DECISIONS],
     trail: Trail,
     exclusions: Exclusions,
     best: Option<Best<M>>,

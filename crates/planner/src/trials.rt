@@ -8,7 +8,7 @@ ghost use Rattle.planner.specs.Trials.{by_cost, or_tried, tried_to, try_plan};
 use crate::book::Book;
 use crate::reaching::reaches;
 use measure::Measure;
-use rules::Kind;
+use rules::{Kind, MOST_DECISIONS};
 use scans::{SuffixCosts, first_met, named};
 use sets::DecisionSet;
 use tables::{Choice, Domain, Exclusions};
@@ -81,7 +81,7 @@ impl<M: Measure> Trials<'_, M> {
     /// Tests the domain's values that are not excluded, each in the plan.
     pub fn try_values(
         &self,
-        plan: &[u8; 64],
+        plan: &[u8; MOST_DECISIONS],
         costs: &mut SuffixCosts<M>,
         exclusions: &mut Exclusions,
     )

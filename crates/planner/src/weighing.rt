@@ -13,7 +13,7 @@ use crate::best::Best;
 use crate::book::Book;
 use crate::reaching::reaches;
 use measure::Measure;
-use rules::Kind;
+use rules::{Kind, MOST_DECISIONS};
 use scans::{SuffixCosts, is_lawful};
 use sets::DecisionSet;
 
@@ -30,7 +30,7 @@ fn better<M: Measure>(held: Option<Best<M>>, plan: Best<M>) -> Best<M>
 pub fn weigh<M: Measure>(
     book: &Book,
     held: Option<Best<M>>,
-    plan: &[u8; 64],
+    plan: &[u8; MOST_DECISIONS],
     costs: &mut SuffixCosts<M>,
 ) -> (Best<M>, DecisionSet)
     ensures best { best_of result.0 ≡ champion M.meaning (option_map best_of held) (record { plan = from_bytes plan.now; cost = cost M.meaning (book_of book.now).prices (from_bytes plan.now) }) }
@@ -64,7 +64,7 @@ pub fn still_lawful<M: Measure>(book: &Book, held: Option<Best<M>>) -> Option<Be
 }
 
 /// Whether a plan is lawful.
-fn judges_lawful(book: &Book, plan: &[u8; 64]) -> bool
+fn judges_lawful(book: &Book, plan: &[u8; MOST_DECISIONS]) -> bool
     ensures { result ≡ is_lawful (book_of book.now) (from_bytes plan.now) }
 {
     is_lawful(

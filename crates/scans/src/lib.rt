@@ -1,4 +1,4 @@
-//! The scans over rules that a step of the search makes.
+//! The scans over rules that the search makes.
 #![tactic(auto)]
 
 mod activates;

@@ -16,7 +16,7 @@ use crate::book::Book;
 use crate::planner::Planner;
 use account::State;
 use measure::Measure;
-use rules::{Decision, Kind, Refusal, Row};
+use rules::{Decision, Kind, MOST_DECISIONS, Refusal, Row};
 use scans::SuffixCosts;
 use sets::DecisionSet;
 use tables::{Domain, Exclusions, Trail};
@@ -31,7 +31,7 @@ impl<M: Measure> Planner<M> {
     {
         Planner {
             book: Book::new(),
-            ranks: [0; 64],
+            ranks: [0; MOST_DECISIONS],
             trail: Trail::new(),
             exclusions: Exclusions::new(),
             best: None,
@@ -48,7 +48,7 @@ impl<M: Measure> Planner<M> {
         ensures law { open_refusal decisions.now ≡ None → (calls others : List Call) → PlanningLaw M.meaning decisions.now calls others }
     {
         self.book.open(decisions)?;
-        self.ranks = [0; 64];
+        self.ranks = [0; MOST_DECISIONS];
         self.trail.clear();
         self.exclusions.clear();
         self.best = None;
@@ -57,6 +57,7 @@ impl<M: Measure> Planner<M> {
     }
 
     /// The decisions that the planner is opened over.
+    // The facts of `Book::decisions` and `Book::rows`, here and below, told to callers.
     pub fn decisions(&self) -> &[Decision]
         ensures value { result.now ≡ (account_of self.now).book.decisions }
         ensures few { length result.now ≤ 64 }
