@@ -10,6 +10,7 @@ use std::io::Read;
 pub fn read_input<'a>(rt: &HostRuntime, buffer: &'a mut [u8]) -> io::Result<&'a [u8]>
     ensures { IfOk result (λ text. length text.now ≤ length buffer.old) }
 {
+    // A cast: `u64` is not `From` a `usize`.
     let mut input = rt.stdin().take(buffer.len() as u64);
     let mut room = &mut buffer[..];
     io::copy(&mut input, &mut room)?;
