@@ -12,7 +12,7 @@ pub struct Ran {
     pub state: State,
 }
 
-// By hand: its contract refuses a run told with other steps, which a closure in `run` lets pass.
+// By hand: its contract pins steps and state; with a closure in `run` a wrong count would pass.
 impl From<(u32, State)> for Ran {
     ghost from_gives = { λ answer ran. (ran.steps ≡ answer.0) × (ran.state ≡ answer.1) };
 

@@ -5,7 +5,7 @@ use showing::{Answer, Spaced, done};
 use std::io;
 
 /// Asks for the best with a buffer, and prints what the buffer then holds.
-// Other words than the session's.
+// Other words than the session's, and both are to stay.
 fn best(calls: &Calls<'_, impl Print, Cents>, buffer: &mut [u8]) -> io::Result<()> {
     let length = buffer.len();
     let answer = calls.planner.best(buffer);
@@ -39,7 +39,7 @@ pub fn buffers(calls: &Calls<'_, impl Print, Cents>) -> io::Result<()> {
 }
 
 /// Asks for the exclusion of a value, and prints the answer.
-// Other words than the session's.
+// Other words than the session's, and both are to stay.
 fn exclusion(calls: &Calls<'_, impl Print, Cents>, d: u8, value: u8) -> io::Result<()> {
     match calls.planner.exclusion(d, value) {
         Ok(Some((reason, resting))) => {

@@ -14,7 +14,8 @@ use sets::DecisionSet;
 use tables::{Choice, Domain, Exclusions};
 
 /// What the values of a decision are tested by: the rules, and the best's cost if one is held.
-// Plan, costs and exclusions are no fields: the methods change them, and each would have to say that the rest stays.
+// Costs and exclusions are no fields, since methods change them and would have to say that the rest stays; the plan
+// differs at each value.
 #[derive(Clone, Copy)]
 pub struct Trials<'a, M> {
     pub book: &'a Book,

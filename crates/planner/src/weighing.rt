@@ -26,7 +26,7 @@ fn better<M: Measure>(held: Option<Best<M>>, plan: Best<M>) -> Best<M>
 }
 
 /// The best that a complete trail's plan leaves, and the decisions of the price rules kept for the plan.
-// Parts of the planner, here and below, since a method would borrow the whole of it.
+// Parts of the planner, here and below: a method that changed some would have to say that the rest stays.
 pub fn weigh<M: Measure>(
     book: &Book,
     held: Option<Best<M>>,

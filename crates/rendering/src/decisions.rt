@@ -12,6 +12,7 @@ impl Text for bool {
 
     /// The word of a mark.
     fn put<S: Sink>(&self, sink: &mut S) {
+        // The words again: a book is read by matching them, and they are written to a sink here.
         sink.word(if *self { b"on" } else { b"off" });
     }
 }

@@ -43,8 +43,7 @@ fn check_each(decisions: &[Decision], active: DecisionSet, plan: &[u8]) -> Resul
 
 /// Whether a plan chooses just the active decisions, each in its range; else how it mistreats the first that it does.
 /// Decisions and bytes past the first 64 are left out.
-// Of `active_decisions` and `check_each`, called here alone: both ask for 64 decisions at most, since a type for such a
-// slice would be opened again at each use.
+// 64 decisions at most are asked for by what is called from here alone: no type of a slice keeps its length.
 pub fn check_choices<C: Counting>(
     decisions: &[Decision],
     rows: &[Row],

@@ -19,7 +19,8 @@ pub enum Kind {
 }
 
 /// A plain copy of a rule. Its condition is its first `count` pairs.
-// A count beside four places: a row is wanted in this form, and an `ArrayVec` would be no plain copy.
+// A count beside four places, and 0 for a target or a price that the kind lacks: a row is wanted in this form, and an
+// `ArrayVec` would be no plain copy.
 #[derive(Clone, Copy, Debug, Default, PartialEq, Eq)]
 pub struct Row {
     pub kind: Kind,

@@ -16,7 +16,7 @@ fn meets_none(rows: &[Row], plan: &[u8]) -> bool
 
 /// Whether a plan, a byte for each decision, is lawful: it chooses exactly the active decisions, each in its range, and
 /// meets no forbid rule.
-// Both lengths are asked for: a book and a plan of a planner have them by their types.
+// Both lengths are asked for: no type of a slice keeps its length.
 pub fn is_lawful(decisions: &[Decision], forbids: &[Row], activates: &[Row], plan: &[u8]) -> bool
     requires few { length decisions.now ≤ 64 }
     requires short { length plan.now ≤ 64 }

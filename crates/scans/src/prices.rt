@@ -32,7 +32,7 @@ impl<M: Measure> SuffixCosts<M> {
     }
 
     /// Works out what the rows from each place on cost a plan, and answers what all of them do.
-    // Few rows, here and below, and known ones: what `rows` of a book promises.
+    // Asked of slices, here and below: no type of a slice keeps its length or what its rows name.
     pub fn fill(&mut self, rows: &[Row], plan: &[u8]) -> M
         requires { length rows.now ≤ 256 }
         ensures total { result ≡ cost M.meaning rows.now (from_bytes plan.now) }

@@ -7,7 +7,7 @@ use std::fmt::Display;
 use std::io;
 
 /// Asks for the best with a buffer.
-// Other words than the edges'.
+// Other words than the edges', and both are to stay.
 pub fn best<M: Measure + Display>(
     calls: &Calls<'_, impl Print, M>,
     buffer: &mut [u8],
@@ -24,7 +24,7 @@ pub fn best<M: Measure + Display>(
 }
 
 /// Asks for the exclusion of a value, and prints it if there is one.
-// Other words than the edges'.
+// Other words than the edges', and both are to stay.
 fn exclusion<M: Measure>(
     calls: &Calls<'_, impl Print, M>,
     decision: u8,
@@ -49,6 +49,7 @@ pub fn exclusions<M: Measure>(calls: &Calls<'_, impl Print, M>) -> io::Result<()
             exclusion(calls, decision, value)?;
         }
     }
+    // Other spaces than the edges', and both are to stay.
     for (decision, _) in (0..64).zip(calls.planner.decisions()) {
         println!(calls.rt;
             "  unexcluded of {decision}: {}",

@@ -9,8 +9,7 @@ pub struct Line<'a> {
     pub ended: bool,
 }
 
-/// The kinds of line. An enum that is an answer shows the value of each case, here the byte that such a line begins
-/// with.
+/// The kinds of line. Each presents the byte that such a line begins with, since that form is asked for.
 #[derive(Clone, Copy, Debug, PartialEq, Eq)]
 pub enum LineKind {
     Decision = 68,

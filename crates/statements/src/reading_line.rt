@@ -8,7 +8,7 @@ use crate::fields::Fields;
 use crate::known::KnownLine;
 use crate::{Fault, Line, LineKind, Parts, Statement};
 use measure::Price;
-use rules::{Decision, Kind, Refusal};
+use rules::{Decision, Kind, MOST_PAIRS, Refusal};
 
 /// Reads a decision: its size, and its mark.
 #[tactic(auto, unfolding(crate::specs::Statements::read_decision))]
@@ -28,7 +28,7 @@ fn read_rule(fields: Fields, kind: Kind, target: u8, price: Price) -> Result<Sta
     let pairs = fields.pairs()?;
     let count = pairs.as_slice().len();
     // Counted here too: `read_line` refuses it by itself, before a rule is composed.
-    if !(1..=4).contains(&count) {
+    if !(1..=MOST_PAIRS).contains(&count) {
         return Err(Fault::at_line(Refusal::PairCount, line));
     }
     Ok(Statement::Rule(Parts {

@@ -33,7 +33,7 @@ pub trait Form: Sized {
     fn of(token: Token) -> Option<Self>
         ensures { result ≡ held token.entry };
 
-    // a field that is missing is of no form
+    // A field that is missing is of no form.
     ghost nothing: { form [] ≡ None };
 }
 

@@ -13,15 +13,15 @@ use sets::{DecisionSet, ValueSet};
 
 /// For each of 64 decisions its excluded values, which of them rest on the best, and the reason of each: that of value
 /// `v` of decision `d` stands at `16 * d + v - 1`, as the bits of a set of decisions.
-#[derive(Drop)]
 // Three arrays side by side: sets of 16 bits and one table of words of 64 bits are the form that is wanted here.
+#[derive(Drop)]
 pub struct Exclusions {
     excluded: [ValueSet; MOST_DECISIONS],
     resting: [ValueSet; MOST_DECISIONS],
     reasons: [u64; 1024],
 }
 
-// Casts in this file: an index by `usize::from` was tried, and proofs then need a step more.
+// Casts in this file: indices by `usize::from` were tried, and the proofs of the calls did not close.
 
 /// Which exclusions stay: those whose reason has no barred decision, and unless `resting` only those that do not rest
 /// on the best.
@@ -41,7 +41,7 @@ impl Sparing {
 }
 
 /// Where the reason of a value stands.
-// By two numbers: with a `Choice` made at each look-up a step takes a twentieth longer.
+// By two numbers: a `Choice` made at each look-up misses the bar of speed, by a twentieth of a step.
 fn cell(d: u8, v: u8) -> usize
     requires known { d < 64 }
     requires low { 1 ≤ v }
@@ -99,6 +99,7 @@ impl Exclusions {
     }
 
     /// Excludes a choice, in place of any exclusion that it has.
+    // Reason and mark, as `get` answers them.
     pub fn put(&mut self, choice: Choice, reason: DecisionSet, rests: bool)
         ensures { exclusions_of self.new ≡ (λ x w. (if nat_eq x choice.decision && w == choice.value then Some (record { reason = members reason; rests = rests }) else exclusions_of self.old x w)) }
     {
@@ -166,6 +167,7 @@ impl Exclusions {
 
     /// Takes every exclusion out whose reason has one of the first `count` decisions, and unless `resting` those that
     /// rest on the best.
+    // A flag: with a `Sparing` in its place callers could bar other decisions than the first.
     pub fn keep_empty(&mut self, count: u8, resting: bool)
         requires { count ≤ 64 }
         ensures { exclusions_of self.new ≡ (λ d v. keep_if (λ e. empty_below e.reason count && (resting || not e.rests)) (exclusions_of self.old d v)) }
@@ -192,7 +194,7 @@ impl Exclusions {
     fn spared_values(&self, d: u8, sparing: Sparing) -> ValueSet
         ensures { values result ≡ (λ v. not (is_free (keep_if (spared (members sparing.barred) sparing.resting) (exclusions_of self.now d v)))) }
     {
-        // By a loop, which LLVM unrolls: with a chain of `filter` and `fold` a step takes a thirtieth longer.
+        // By a loop, which LLVM unrolls: a chain of `filter` and `fold` misses the bar of speed, by a thirtieth of a step.
         let mut stays = ValueSet::empty();
         for v in 1..17u8 {
             if self.spares(d, v, sparing) {

@@ -14,7 +14,7 @@ mod moves;
 #[derive(Drop)]
 pub struct Trail {
     entries: ArrayVec<Entry, MOST_DECISIONS>,
-    /// Kept beside the entries, since every step reads the plan.
+    /// Kept beside the entries, as is asked for: every step reads the plan.
     values: [u8; MOST_DECISIONS],
     ghost distinct: { proper (newest_first entries.items) ≡ true },
     ghost planned: { ((d : ℕ) → slice_index values d ≡ chosen (newest_first entries.items) d) },

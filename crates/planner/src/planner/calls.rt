@@ -57,7 +57,7 @@ impl<M: Measure> Planner<M> {
     }
 
     /// The decisions that the planner is opened over.
-    // The facts of `Book::decisions` and `Book::rows`, here and below, told to callers.
+    // Facts of a slice, here and below, told again where it is handed on: no type of a slice keeps them.
     pub fn decisions(&self) -> &[Decision]
         ensures value { result.now ≡ (account_of self.now).book.decisions }
         ensures few { length result.now ≤ 64 }

@@ -27,6 +27,7 @@ impl<M: Measure> Planner<M> {
         }
         let met = self.best_meets(&row);
         self.book.add(ShapedRow { row });
+        // By kind: each keeps something else.
         match row.kind {
             Kind::Forbid => self.reopen_forbidding(met),
             Kind::Activate => self.reopen_rejudged(),
@@ -44,6 +45,7 @@ impl<M: Measure> Planner<M> {
             return Err(Refusal::NoSuchRule);
         }
         self.book.remove(kind, place);
+        // By kind: each keeps something else.
         match kind {
             Kind::Forbid => self.reopen_afresh(),
             Kind::Activate => self.reopen_rejudged(),

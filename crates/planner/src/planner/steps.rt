@@ -19,6 +19,7 @@ use tables::{Choice, Domain};
 impl<M: Measure> Planner<M> {
     /// Retreats from a blame: the latest blamed entry leaves, with what rested on it for support, and its value is
     /// excluded by the rest of the blame. If nobody is blamed, the planner is settled.
+    // Reason and mark, as `Exclusions::get` answers them.
     fn retreat(&mut self, blamed: DecisionSet, rests: bool)
         ensures { account_of self.new ≡ blame (account_of self.old) (members blamed) rests }
     {

@@ -27,6 +27,7 @@ impl RuleTable {
     }
 
     /// The rows, in place order.
+    // Facts of a slice, told where it is handed out: no type of a slice keeps them.
     pub fn rows(&self) -> &[Row]
         ensures value { result.now ≡ table_rows self.now }
         ensures shapes { all_shaped result.now ≡ true }

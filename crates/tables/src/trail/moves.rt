@@ -12,7 +12,7 @@ use arrayvec::ArrayVec;
 use rules::MOST_DECISIONS;
 use sets::DecisionSet;
 
-// Casts in this file: an index by `usize::from` was tried, and the proofs then need a step more.
+// Casts in this file: indices by `usize::from` were tried, and the proofs of the calls did not close.
 
 impl Trail {
     /// The trail with no entry.
