@@ -2,7 +2,7 @@
 use sets::DecisionSet;
 
 /// A choice on the trail: a decision, its value, and the decisions that made it active.
-// Not by a `Choice`: an `ArrayVec` fills its free places with defaults, and a choice, of value 1 or more, has no derived one.
+// Not by a `Choice`: an `ArrayVec` fills its free places with defaults, and a choice, of value 1 or more, derives none.
 #[derive(Clone, Copy, Debug, Default, PartialEq, Eq)]
 pub struct Entry {
     pub decision: u8,

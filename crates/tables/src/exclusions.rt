@@ -194,7 +194,7 @@ impl Exclusions {
     fn spared_values(&self, d: u8, sparing: Sparing) -> ValueSet
         ensures { values result ≡ (λ v. not (is_free (keep_if (spared (members sparing.barred) sparing.resting) (exclusions_of self.now d v)))) }
     {
-        // By a loop, which LLVM unrolls: a chain of `filter` and `fold` misses the bar of speed, by a thirtieth of a step.
+        // By a loop, which LLVM unrolls: a chain of `filter` and `fold` misses the bar of speed, by a thirtieth.
         let mut stays = ValueSet::empty();
         for v in 1..17u8 {
             if self.spares(d, v, sparing) {
