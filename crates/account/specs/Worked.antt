@@ -1,5 +1,5 @@
 -- Worked cases: small books with the answers that a planner gives over them. All follow by computing from the definitions.
-use Rattle.std.specs.Prelude.{◌≡◌, ℕ, Bool, true, false, ◌&&◌, List, [], ◌∷◌, ◌++◌, Some, None, Option, refl}
+use Rattle.std.specs.Prelude.{◌≡◌, ℕ, nat_le, Bool, true, false, ◌&&◌, List, [], ◌∷◌, ◌++◌, Some, None, Option, refl}
 use Rattle.std.proofs.Common.{ap, lit≤}
 use Rattle.std.proofs.Math.Dec.{leb-zero}
 use Rattle.measure.specs.Meaning.{Meaning}
@@ -7,7 +7,7 @@ use Rattle.measure.specs.Supplied.{cents, tier}
 use Rattle.measure.specs.declared.cents.Cents.{Cents}
 use Rattle.measure.specs.declared.tier.Tier.{Tier}
 use Rattle.measure.specs.declared.price.Price.{Price}
-use Rattle.rules.specs.Compose.{ascends, composed, free}
+use Rattle.rules.specs.Compose.{ascends, composed, free, in_range, is_exact}
 use Rattle.rules.specs.Conditions.{plan_of}
 use Rattle.rules.specs.Plans.{Book, is_lawful, cost}
 use Rattle.rules.specs.declared.decision.Decision.{Decision}
@@ -23,23 +23,24 @@ use Rattle.account.specs.declared.state.State.TheVariants.{Open, Settled}
 abbrev pub pair : ℕ → ℕ → Literal
 pair d v = record { decision = d; value = v }
 
-abbrev pub ruled : Kind → Literal → ℕ → Price → Rule
-ruled k l target price = record { row = composed k (l ∷ []) target price; some = lit≤ tt; few = lit≤ tt; full = refl; ascending = ap (λ (t : Bool). t && true) (leb-zero l.decision) }
+-- a rule of one pair, which has only what its kind has
+abbrev pub ruled : (k : Kind) (l : Literal) (target : ℕ) (price : Price) → is_exact (composed k (l ∷ []) target price) ≡ true → Rule
+ruled k l target price h = record { row = composed k (l ∷ []) target price; some = lit≤ tt; few = lit≤ tt; full = refl; ascending = ap (λ (t : Bool). t && true) (leb-zero l.decision); exact = h }
 
 -- forbid one pair, or two
 abbrev pub forbid : Literal → Call
-forbid l = add (ruled Forbid l 0 free)
+forbid l = add (ruled Forbid l 0 free refl)
 
 abbrev pub forbid_both : (l k : Literal) → ascends (l ∷ k ∷ []) ≡ true → Call
-forbid_both l k h = add (record { row = composed Forbid (l ∷ k ∷ []) 0 free; some = lit≤ tt; few = lit≤ tt; full = refl; ascending = h })
+forbid_both l k h = add (record { row = composed Forbid (l ∷ k ∷ []) 0 free; some = lit≤ tt; few = lit≤ tt; full = refl; ascending = h; exact = refl })
 
 -- a pair activates a target
-abbrev pub activate : Literal → ℕ → Call
-activate l target = add (ruled Activate l target free)
+abbrev pub activate : Literal → (target : ℕ) → nat_le target 255 ≡ true → Call
+activate l target h = add (ruled Activate l target free (ap (λ (t : Bool). t && true && true && true && true) h))
 
 -- a pair has a price, by tier and cents
-abbrev pub charge : Literal → ℕ → ℕ → Call
-charge l t c = add (ruled Priced l 0 (record { tier = t; cents = c }))
+abbrev pub charge : Literal → (t c : ℕ) → in_range (record { tier = t; cents = c }) ≡ true → Call
+charge l t c h = add (ruled Priced l 0 (record { tier = t; cents = c }) (ap (λ (t : Bool). t && true && true && true) h))
 
 abbrev pub on : ℕ → Decision
 on n = record { size = n; on = true }
@@ -71,8 +72,8 @@ decisions = on 3 ∷ off 2 ∷ off 3 ∷ []
 -- 1=1 goes not with 2=3; 0=1 activates 1 and 2, 0=2 activates 2; every value has its price, and 0=3 alone is of tier 1
 abbrev pub rules : List Call
 rules =
-    forbid_both (pair 1 1) (pair 2 3) refl ∷ activate (pair 0 1) 1 ∷ activate (pair 0 1) 2 ∷ activate (pair 0 2) 2 ∷ charge (pair 0 1) 0 40 ∷ charge (pair 0 2) 0 70
-    ∷ charge (pair 0 3) 1 60 ∷ charge (pair 1 1) 0 30 ∷ charge (pair 1 2) 0 45 ∷ charge (pair 2 1) 0 25 ∷ charge (pair 2 2) 0 15 ∷ charge (pair 2 3) 0 5 ∷ []
+    forbid_both (pair 1 1) (pair 2 3) refl ∷ activate (pair 0 1) 1 refl ∷ activate (pair 0 1) 2 refl ∷ activate (pair 0 2) 2 refl ∷ charge (pair 0 1) 0 40 refl ∷ charge (pair 0 2) 0 70 refl
+    ∷ charge (pair 0 3) 1 60 refl ∷ charge (pair 1 1) 0 30 refl ∷ charge (pair 1 2) 0 45 refl ∷ charge (pair 2 1) 0 25 refl ∷ charge (pair 2 2) 0 15 refl ∷ charge (pair 2 3) 0 5 refl ∷ []
 
 -- the worked book, settled in cents
 abbrev pub settled : List Call
@@ -127,11 +128,11 @@ pub record SmallestShown : Type 0 where
 
 -- two decisions that are off and activate only each other
 abbrev pub circle : List Call
-circle = activate (pair 0 1) 1 ∷ activate (pair 1 1) 0 ∷ []
+circle = activate (pair 0 1) 1 refl ∷ activate (pair 1 1) 0 refl ∷ []
 
 -- 0=1 activates decision 1, whose one value is forbidden
 abbrev pub trap : List Call
-trap = activate (pair 0 1) 1 ∷ forbid (pair 1 1) ∷ []
+trap = activate (pair 0 1) 1 refl ∷ forbid (pair 1 1) ∷ []
 
 -- 0=1 goes not with 1=1, the one value of decision 1
 abbrev pub clash : List Call
@@ -139,11 +140,11 @@ clash = forbid_both (pair 0 1) (pair 1 1) refl ∷ []
 
 -- 0=1 for 5 cents, 0=2 for 10
 abbrev pub choice : List Call
-choice = charge (pair 0 1) 0 5 ∷ charge (pair 0 2) 0 10 ∷ []
+choice = charge (pair 0 1) 0 5 refl ∷ charge (pair 0 2) 0 10 refl ∷ []
 
 -- 0=1 activates decision 1, and goes not with 2=1, the one value of decision 2
 abbrev pub orphan : List Call
-orphan = activate (pair 0 1) 1 ∷ forbid_both (pair 0 1) (pair 2 1) refl ∷ []
+orphan = activate (pair 0 1) 1 refl ∷ forbid_both (pair 0 1) (pair 2 1) refl ∷ []
 
 -- where a planner goes quietly wrong
 pub record PitfallsShown : Type 0 where

@@ -22,7 +22,7 @@ use Rattle.statements.specs.declared.fault.Fault.{Fault}
 use Rattle.grammar.specs.Grammar.{ended_lines}
 use Rattle.grammar.proofs.Joins.{Lacks}
 use Rattle.grammar.proofs.Texts.{line_lacks, lines_from}
-use Rattle.book.specs.Laws.{AgreesWithCalls, BytePaired, ByteSized, IsExact, added_from, opened_from, stated_by}
+use Rattle.book.specs.Laws.{AgreesWithCalls, BytePaired, ByteSized, added_from, opened_from, stated_by}
 use Rattle.book.specs.Loads.{carried, load_lines, statement_refusal}
 use Rattle.book.proofs.LoadSteps.{lines_end, small_enough}
 use Rattle.book.proofs.Linewise.{load_text}
@@ -33,13 +33,13 @@ decisions_lack : (ds : List Decision) → AllByRecursion ByteSized ds → AllByR
 decisions_lack [] h = tt
 decisions_lack (d ∷ ds) h = (line_lacks (decides d) (le-leb d.size 255 h.0), decisions_lack ds h.1)
 
-rules_lack : (rs : List Rule) → AllByRecursion BytePaired rs → AllByRecursion IsExact rs → AllByRecursion (Lacks 10) (rule_lines rs)
-rules_lack [] h exact = tt
-rules_lack (r ∷ rs) h exact = (line_lacks (stated_rule r) (stated_fits r h.0 exact.0), rules_lack rs h.1 exact.1)
+rules_lack : (rs : List Rule) → AllByRecursion BytePaired rs → AllByRecursion (Lacks 10) (rule_lines rs)
+rules_lack [] h = tt
+rules_lack (r ∷ rs) h = (line_lacks (stated_rule r) (stated_fits r h.0), rules_lack rs h.1)
 
 -- the lines of the text of decisions and rules
-pub lines_stated : (ds : List Decision) (rs : List Rule) → AllByRecursion ByteSized ds → AllByRecursion BytePaired rs → AllByRecursion IsExact rs → lines_of (stated_by ds rs) ≡ ended_lines 1 (map decision_line ds ++ rule_lines rs)
-lines_stated ds rs sizes pairs exact = grind (arith, common_steps, lines_from, decisions_lack, rules_lack)
+pub lines_stated : (ds : List Decision) (rs : List Rule) → AllByRecursion ByteSized ds → AllByRecursion BytePaired rs → lines_of (stated_by ds rs) ≡ ended_lines 1 (map decision_line ds ++ rule_lines rs)
+lines_stated ds rs sizes pairs = grind (arith, common_steps, lines_from, decisions_lack, rules_lack)
 
 -- one error before another
 unless_twice : {X E : Type 0} (o p : Option E) (r : Result X E) → unless o (unless p r) ≡ unless (or_else o p) r
@@ -66,28 +66,28 @@ module _ {C : Type 0} (m : Meaning C) where
   follows a r f g None = refl
 
   -- why a rule's line is refused: as add refuses the rule
-  refusal_of : (a : Account C) (r : Rule) → IsExact r → statement_refusal a (stated_rule r) ≡ add_refusal a r.row
-  refusal_of a r exact = grind (arith, common_steps, rule_accepted, rule_composed)
+  refusal_of : (a : Account C) (r : Rule) → statement_refusal a (stated_rule r) ≡ add_refusal a r.row
+  refusal_of a r = grind (arith, common_steps, rule_accepted, rule_composed)
 
   -- the lines of rules
-  pub load_rules : (rs : List Rule) → AllByRecursion BytePaired rs → AllByRecursion IsExact rs → (began : Bool) (n : ℕ) (a : Account C) → load_lines m began a (ended_lines n (rule_lines rs)) ≡ added_from m n a rs
-  load_rules [] h exact began n a = lines_end m began a [] refl
-  load_rules (r ∷ rs) h exact began n a =
+  pub load_rules : (rs : List Rule) → AllByRecursion BytePaired rs → (began : Bool) (n : ℕ) (a : Account C) → load_lines m began a (ended_lines n (rule_lines rs)) ≡ added_from m n a rs
+  load_rules [] h began n a = lines_end m began a [] refl
+  load_rules (r ∷ rs) h began n a =
       let at : Refusal → Fault = λ e. fault e n 1 in
       let ls = ended_lines (n + 1) (rule_lines rs) in
       let next : Account C → Result (Account C) Fault = λ b. load_lines m (began || true) b ls in
-      load_text m began a n ls (stated_rule r) (stated_fits r h.0 exact.0) (and_right began false refl)
-      ∙ ap (λ (o : Option Refusal). unless (option_map at o) (next (carried m a (stated_rule r)))) (refusal_of a r exact.0)
-      ∙ ap (λ (w : Row). unless (option_map at (add_refusal a r.row)) (next (added m a r.row.kind w))) (sym (rule_composed r exact.0))
+      load_text m began a n ls (stated_rule r) (stated_fits r h.0) (and_right began false refl)
+      ∙ ap (λ (o : Option Refusal). unless (option_map at o) (next (carried m a (stated_rule r)))) (refusal_of a r)
+      ∙ ap (λ (w : Row). unless (option_map at (add_refusal a r.row)) (next (added m a r.row.kind w))) (sym (rule_composed r))
       ∙ follows a r at next (add_refusal a r.row)
-      ∙ ap (unless (option_map at (add_refusal a r.row))) (load_rules rs h.1 exact.1 (began || true) (n + 1) (after m a (add r)))
+      ∙ ap (unless (option_map at (add_refusal a r.row))) (load_rules rs h.1 (began || true) (n + 1) (after m a (add r)))
 
   -- the law
   pub agrees : (text : List ℕ) → AgreesWithCalls m text
-  agrees text ds rs text_is short sizes pairs exact =
+  agrees text ds rs text_is short sizes pairs =
       small_enough m text short
       ∙ ap (λ (t : List ℕ). load_lines m false (fresh []) (lines_of t)) text_is
-      ∙ ap (load_lines m false (fresh [])) (lines_stated ds rs sizes pairs exact)
+      ∙ ap (load_lines m false (fresh [])) (lines_stated ds rs sizes pairs)
       ∙ load_decisions ds sizes 1 [] (rule_lines rs)
-      ∙ ap (unless (opened_from m 1 [] ds)) (load_rules rs pairs exact false (1 + length ds) (fresh ds))
+      ∙ ap (unless (opened_from m 1 [] ds)) (load_rules rs pairs false (1 + length ds) (fresh ds))
       ∙ ap (λ (n : ℕ). unless (opened_from m 1 [] ds) (added_from m n (fresh ds) rs)) (add_comm 1 (length ds))

@@ -1,6 +1,5 @@
 -- What a list of calls from an opening leaves held: rules, and adding those again makes the same book.
 use Rattle.std.proofs.lemmas.Grind.{common_steps}
-use Rattle.std.proofs.lemmas.Grind.{common_steps}
 use Rattle.std.proofs.Common.{◌≡◌, ℕ, suc, ◌+◌, ◌<◌, ◌≤◌, List, [], ◌∷◌, ◌++◌, map, length, take, drop, Some, None, Option, sym, refl, ap, ◌∙◌, subst, arith, length-append, length-drop, length-take}
 use mathlib.Core.List.{map-append}
 use lib.ListN.{length-map}
@@ -23,17 +22,16 @@ use Rattle.account.specs.Calls.{Call, add, withdraw, rank, run, best, exclusion,
 use Rattle.account.specs.Changes.{held, with_rules, added, withdrawn}
 use Rattle.account.proofs.Changed.{all_removed}
 use Rattle.account.proofs.Histories.{advance_book}
-use Rattle.book.specs.Laws.{Accepted, AddIsExact, AddsExact, IsExact, rows_of}
+use Rattle.book.specs.Laws.{Accepted, rows_of}
 
 -- the row of a rule
 abbrev pub row_of : Rule → Row
 row_of r = r.row
 
--- a rule of a kind, as new and compose make them, which these decisions allow
+-- a rule of a kind, which these decisions allow
 pub record Allowed (ds : List Decision) (k : Kind) (r : Rule) : Type 0 where
   pub of_kind : r.row.kind ≡ k
   pub known : row_refusal ds r.row ≡ None
-  pub exact : IsExact r
 
 -- rows are those of rules of a kind, all allowed, no more than a table holds
 pub record HeldRules (ds : List Decision) (k : Kind) (rows : List Row) : Type 0 where
@@ -128,36 +126,36 @@ module _ {C : Type 0} (m : Meaning C) where
     pub fresh_holds : Holds ds (fresh {C = C} ds).book
     fresh_holds = record { decisions_are = refl; by_kind = none_held ds }
 
-    leaves_holds : (a : Account C) (c : Call) → AddIsExact c → Holds ds a.book → refusal a c ≡ None → Holds ds (leaves m a c).book
-    leaves_holds a (add r) exact h none =
+    leaves_holds : (a : Account C) (c : Call) → Holds ds a.book → refusal a c ≡ None → Holds ds (leaves m a c).book
+    leaves_holds a (add r) h none =
         let (known, room) = or_else_none _ _ none in
         let k = r.row.kind in
-        let one : Allowed ds k r = record { of_kind = refl; known = subst (λ (es : List Decision). row_refusal es r.row ≡ None) h.decisions_are known; exact = exact } in
+        let one : Allowed ds k r = record { of_kind = refl; known = subst (λ (es : List Decision). row_refusal es r.row ≡ None) h.decisions_are known } in
         let new = held_push ds k (held a.book k) (h.by_kind k) r one (leb-false 256 (length (held a.book k)) (when_none _ _ room)) in
         subst (Holds ds) (sym (added_book a k r.row)) (holds_with ds a.book k (held a.book k ++ r.row ∷ []) h new)
-    leaves_holds a (withdraw k n) exact h none =
+    leaves_holds a (withdraw k n) h none =
         subst (Holds ds) (sym (withdrawn_book a k n)) (holds_with ds a.book k (remove (held a.book k) n) h (held_removed ds k (held a.book k) n (h.by_kind k)))
-    leaves_holds a (rank d n) exact h none = h
-    leaves_holds a (run n) exact h none = subst (Holds ds) (sym (advance_book m n a)) h
-    leaves_holds a (best bytes) exact h none = h
-    leaves_holds a (exclusion d v) exact h none = h
-    leaves_holds a (unexcluded d) exact h none = h
+    leaves_holds a (rank d n) h none = h
+    leaves_holds a (run n) h none = subst (Holds ds) (sym (advance_book m n a)) h
+    leaves_holds a (best bytes) h none = h
+    leaves_holds a (exclusion d v) h none = h
+    leaves_holds a (unexcluded d) h none = h
 
     -- a call keeps it so
-    pub after_holds : (a : Account C) (c : Call) → AddIsExact c → Holds ds a.book → Holds ds (after m a c).book
-    after_holds a c exact h = go (refusal a c) refl
+    pub after_holds : (a : Account C) (c : Call) → Holds ds a.book → Holds ds (after m a c).book
+    after_holds a c h = go (refusal a c) refl
       where
         go : (o : Option Refusal) → refusal a c ≡ o → Holds ds (after_if m a c o).book
-        go None none = leaves_holds a c exact h none
+        go None none = leaves_holds a c h none
         go (Some e) none = h
 
-    history_holds : (a : Account C) (cs : List Call) → AddsExact cs → Holds ds a.book → Holds ds (history m a cs).book
-    history_holds a [] exact h = h
-    history_holds a (c ∷ cs) exact h = history_holds (after m a c) cs exact.1 (after_holds a c exact.0 h)
+    history_holds : (a : Account C) (cs : List Call) → Holds ds a.book → Holds ds (history m a cs).book
+    history_holds a [] h = h
+    history_holds a (c ∷ cs) h = history_holds (after m a c) cs (after_holds a c h)
 
-    -- so after any list of calls on a new account that adds such rules
-    pub calls_hold : (cs : List Call) → AddsExact cs → Holds ds (history m (fresh ds) cs).book
-    calls_hold cs exact = history_holds (fresh ds) cs exact fresh_holds
+    -- so after any list of calls on a new account
+    pub calls_hold : (cs : List Call) → Holds ds (history m (fresh ds) cs).book
+    calls_hold cs = history_holds (fresh ds) cs fresh_holds
 
   -- adding rules one by one is accepted, and makes a book
   pub record Adds (a : Account C) (rs : List Rule) (b : Book) : Type 0 where

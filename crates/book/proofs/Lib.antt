@@ -6,7 +6,6 @@ pub mod LoadedBack
 pub mod LoadSteps
 pub mod Telling
 pub mod Running
-pub mod Exactness
 pub mod Rulings
 pub mod Linewise
 pub mod Agreeing

@@ -20,7 +20,7 @@ use Rattle.book.specs.Loads.{loaded}
 use Rattle.book.proofs.Agreeing.{agrees}
 use Rattle.book.proofs.Fitting.{sizes_fit}
 use Rattle.book.proofs.Holding.{Holds, adds_again, calls_hold, rows_are, rules_of}
-use Rattle.book.proofs.Sizes.{held_exact, held_fits, held_short}
+use Rattle.book.proofs.Sizes.{held_fits, held_short}
 
 -- the first of accepted decisions are accepted
 pub front_accepted : (ds es : List Decision) → open_refusal (ds ++ es) ≡ None → open_refusal ds ≡ None
@@ -49,11 +49,11 @@ module _ {C : Type 0} (m : Meaning C) where
       let rs = rules_of ds b h in
       let adds = adds_again m ds b h in
       let same : book_text b.decisions (rows_of b) ≡ stated_by ds rs = ap₂ book_text h.decisions_are (sym (rows_are ds b h)) in
-      let loads : loaded m (stated_by ds rs) ≡ Ok (history m (fresh ds) (map add rs)) = agrees m (stated_by ds rs) ds rs refl (held_short ds b opens h) (sizes_fit ds opens) (held_fits ds b opens h) (held_exact ds b h)
+      let loads : loaded m (stated_by ds rs) ≡ Ok (history m (fresh ds) (map add rs)) = agrees m (stated_by ds rs) ds rs refl (held_short ds b opens h) (sizes_fit ds opens) (held_fits ds b opens h)
       ∙ ap (λ (o : Option Fault). unless o (added_from m (length ds + 1) (fresh ds) rs)) (opened_none 1 [] ds opens)
       ∙ added_ok (length ds + 1) (fresh ds) rs adds.accepted in
       (history m (fresh ds) (map add rs), ap (loaded m) same ∙ loads, adds.book_is)
 
   -- so is what is written of a planner, whatever was called on it
   pub loads_back : LoadsBack m
-  loads_back ds opens calls exact = held_loads ds (history m (fresh ds) calls).book opens (calls_hold m ds calls exact)
+  loads_back ds opens calls = held_loads ds (history m (fresh ds) calls).book opens (calls_hold m ds calls)

@@ -12,11 +12,11 @@ use Rattle.rules.specs.declared.row.Kind.TheVariants.{Forbid, Activate, Price as
 use Rattle.rules.specs.declared.row.Row.{Row}
 use Rattle.rules.specs.declared.rule.Rule.{Rule}
 use Rattle.rules.proofs.Composing.{accepted_shape, composed_condition}
+use Rattle.rules.proofs.Recomposing.{exact_parts}
 use Rattle.rendering.specs.Texts.{parts_line, rule_line}
 use Rattle.statements.specs.Statements.{Stated, rules}
 use Rattle.grammar.specs.Grammar.{fitting, fitting_head, fitting_pair, fitting_pairs}
-use Rattle.book.specs.Laws.{BytePaired, IsExact}
-use Rattle.book.proofs.Exactness.{composed_exact, exact_parts}
+use Rattle.book.specs.Laws.{BytePaired}
 
 -- the lines of rules
 abbrev pub rule_lines : List Rule → List (List ℕ)
@@ -44,13 +44,13 @@ head_bytes Priced t price h =
     let low = and_parts (leb price.tier 255) (leb price.cents 4294967295) fit.1 in
     (omega (arith, eqb-true t 0 fit.0), leb-true price.tier 255 low.0)
 
--- parts that fit, and that compose accepts, make a rule, which is exact
-pub rule_of : (k : Kind) (ps : List Literal) (t : ℕ) (price : Price) → fitting (rules k ps t price) ≡ true → compose_refusal k ps price ≡ None → (r : Rule) × ((r.row ≡ composed k ps t price) × IsExact r)
+-- parts that fit, and that compose accepts, make a rule
+pub rule_of : (k : Kind) (ps : List Literal) (t : ℕ) (price : Price) → fitting (rules k ps t price) ≡ true → compose_refusal k ps price ≡ None → (r : Rule) × (r.row ≡ composed k ps t price)
 rule_of k ps t price fit accepted =
     let head = (and_parts (fitting_pairs ps) (fitting_head k t price) (and_parts (leb 1 (length ps) && leb (length ps) 4) _ fit).1).1 in
     let bytes = head_bytes k t price head in
-    let (some, few, full, ascending) = accepted_shape (composed k ps t price) k ps t price refl accepted in
-    (record { row = composed k ps t price; some = some; few = few; full = full; ascending = ascending }, (refl, composed_exact k ps t price bytes.0 bytes.1 accepted))
+    let (some, few, full, ascending, exact) = accepted_shape (composed k ps t price) k ps t price refl bytes.0 bytes.1 accepted in
+    (record { row = composed k ps t price; some = some; few = few; full = full; ascending = ascending; exact = exact }, refl)
 
 -- what the line of a rule states
 abbrev pub stated_rule : Rule → Stated
@@ -73,8 +73,8 @@ head_fits Priced t price low range aimed priced =
 
 exact_fits : (r : Row) → is_exact r ≡ true → fitting_head r.kind r.target r.price ≡ true
 exact_fits r h =
-    let (low, range, aimed, priced) = exact_parts r h in
+    let (low, range, aimed, priced, rest) = exact_parts r h in
     head_fits r.kind r.target r.price low range aimed priced
 
-pub stated_fits : (r : Rule) → BytePaired r → IsExact r → fitting (stated_rule r) ≡ true
-stated_fits r h exact = grind (arith, common_steps, bytes_fit, exact_fits)
+pub stated_fits : (r : Rule) → BytePaired r → fitting (stated_rule r) ≡ true
+stated_fits r h = grind (arith, common_steps, bytes_fit, exact_fits)

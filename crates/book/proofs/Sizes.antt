@@ -16,10 +16,10 @@ use Rattle.rules.specs.declared.row.Kind.{Kind}
 use Rattle.rules.specs.declared.row.Kind.TheVariants.{Forbid, Activate, Price as Priced}
 use Rattle.rules.specs.declared.row.Row.{Row}
 use Rattle.rules.specs.declared.rule.Rule.{Rule}
+use Rattle.rules.proofs.Recomposing.{exact_parts}
 use Rattle.rules.proofs.Verdicts.{accepted_few}
 use Rattle.rendering.specs.Texts.{spaced, ended, pair_text, mark_text, head_fields, decision_line, parts_line, rule_line}
-use Rattle.book.specs.Laws.{ByteSized, BytePaired, IsExact, stated_by}
-use Rattle.book.proofs.Exactness.{exact_parts}
+use Rattle.book.specs.Laws.{ByteSized, BytePaired, stated_by}
 use Rattle.book.proofs.Fitting.{sizes_fit, rule_fits}
 use Rattle.book.proofs.Holding.{Holds, all_rules, rules_few, rules_of}
 
@@ -66,33 +66,33 @@ head_short Priced target price t p c = (omega (arith, byte_short price.tier p), 
 -- the numbers of an exact row are in range
 exact_small : (r : Row) → is_exact r ≡ true → (r.target ≤ 255) × (r.price.tier ≤ 255) × (r.price.cents ≤ 1000000000)
 exact_small r h =
-    let (target, range, aimed, priced) = exact_parts r h in
+    let (target, range, aimed, priced, rest) = exact_parts r h in
     let (tier, cents) = and_parts (leb r.price.tier 255) (leb r.price.cents 1000000000) range in
     (leb-true r.target 255 target, leb-true r.price.tier 255 tier, leb-true r.price.cents 1000000000 cents)
 
-rule_short : (r : Rule) → BytePaired r → IsExact r → Shorter 68 (rule_line r.row)
+rule_short : (r : Rule) → BytePaired r → Shorter 68 (rule_line r.row)
 unfolding parts_line
-rule_short r fits exact =
+rule_short r fits =
     let row = r.row in
     let ps = condition row in
     let head = head_fields row.kind row.target row.price in
-    let (t, p, c) = exact_small row exact in
+    let (t, p, c) = exact_small row r.exact in
     let all : AllByRecursion (Shorter 11) (head ++ map pair_text ps) = All-append (Shorter 11) head (map pair_text ps) (head_short row.kind row.target row.price t p c)
     (All-map (Shorter 11) pair_text ps (All-weaker (λ (l : Literal). (l.decision ≤ 255) × (l.value ≤ 255)) (λ (l : Literal). Shorter 11 (pair_text l)) pair_short ps fits)) in
     let few : length (head ++ map pair_text ps) ≤ 6 = omega (arith, length-append head (map pair_text ps), head_few row.kind row.target row.price, length-map ps pair_text, length-take row.count row.pairs, r.few) in
     omega (arith, spaced_short 11 (head ++ map pair_text ps) all)
 
-rules_short : (rs : List Rule) → AllByRecursion BytePaired rs → AllByRecursion IsExact rs → AllByRecursion (Shorter 68) (map rule_line (map (λ (r : Rule). r.row) rs))
-rules_short [] fits exact = tt
-rules_short (r ∷ rs) fits exact = (rule_short r fits.0 exact.0, rules_short rs fits.1 exact.1)
+rules_short : (rs : List Rule) → AllByRecursion BytePaired rs → AllByRecursion (Shorter 68) (map rule_line (map (λ (r : Rule). r.row) rs))
+rules_short [] fits = tt
+rules_short (r ∷ rs) fits = (rule_short r fits.0, rules_short rs fits.1)
 
 -- at most 64 decisions of sizes that are bytes, and at most 768 rules of pairs that are bytes, make a text of at most 65,536 bytes
-pub stated_short : (ds : List Decision) (rs : List Rule) → length ds ≤ 64 → length rs ≤ 768 → AllByRecursion ByteSized ds → AllByRecursion BytePaired rs → AllByRecursion IsExact rs → length (stated_by ds rs) ≤ 65536
-stated_short ds rs few_ds few_rs sizes pairs exact =
+pub stated_short : (ds : List Decision) (rs : List Rule) → length ds ≤ 64 → length rs ≤ 768 → AllByRecursion ByteSized ds → AllByRecursion BytePaired rs → length (stated_by ds rs) ≤ 65536
+stated_short ds rs few_ds few_rs sizes pairs =
     let rows = map (λ (r : Rule). r.row) rs in
     let lines = map decision_line ds ++ map rule_line rows in
     let all : AllByRecursion (Shorter 68) lines = All-append (Shorter 68) (map decision_line ds) (map rule_line rows) (All-map (Shorter 68) decision_line ds (All-weaker ByteSized (λ (d : Decision). Shorter 68 (decision_line d)) decision_short ds sizes))
-    (rules_short rs pairs exact) in
+    (rules_short rs pairs) in
     let few : length lines ≤ 832 = omega (arith, length-append (map decision_line ds) (map rule_line rows), length-map ds decision_line, length-map rows rule_line, length-map rs (λ (r : Rule). r.row)) in
     omega (arith, ended_short 68 lines all)
 
@@ -100,10 +100,6 @@ stated_short ds rs few_ds few_rs sizes pairs exact =
 pub held_fits : (ds : List Decision) (b : Book) → open_refusal ds ≡ None → (h : Holds ds b) → AllByRecursion BytePaired (rules_of ds b h)
 held_fits ds b opens h = all_rules ds b h BytePaired (λ k r one. rule_fits ds r opens one.known)
 
--- all of them are as new and compose make them
-pub held_exact : (ds : List Decision) (b : Book) (h : Holds ds b) → AllByRecursion IsExact (rules_of ds b h)
-held_exact ds b h = all_rules ds b h IsExact (λ k r one. one.exact)
-
 -- so the text of what is held is short
 pub held_short : (ds : List Decision) (b : Book) → open_refusal ds ≡ None → (h : Holds ds b) → length (stated_by ds (rules_of ds b h)) ≤ 65536
-held_short ds b opens h = stated_short ds (rules_of ds b h) (accepted_few ds opens) (rules_few ds b h) (sizes_fit ds opens) (held_fits ds b opens h) (held_exact ds b h)
+held_short ds b opens h = stated_short ds (rules_of ds b h) (accepted_few ds opens) (rules_few ds b h) (sizes_fit ds opens) (held_fits ds b opens h)

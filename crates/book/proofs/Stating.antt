@@ -3,7 +3,6 @@ use Rattle.std.proofs.lemmas.Grind.{common_steps}
 use Rattle.std.proofs.Common.{arith}
 use Rattle.std.proofs.Common.{◌≡◌, ℕ, Bool, true, false, cond, ltb, List, [], ◌∷◌, ◌++◌, map, length, None, Ok, Err, Result, sym, refl, ap, ◌∙◌, subst, append-nil}
 use Rattle.std.proofs.lemmas.Bool.{and_from, true≢false}
-use Rattle.std.specs.List.{AllByRecursion}
 use Rattle.measure.specs.Meaning.{Meaning}
 use Rattle.measure.specs.declared.price.Price.{Price}
 use Rattle.rules.specs.Compose.{compose_refusal, composed}
@@ -24,7 +23,7 @@ use Rattle.grammar.specs.Grammar.{all_ended}
 use Rattle.rules.proofs.Grounds.{or_else_none}
 use Rattle.grammar.proofs.Forms.{err_ok}
 use Rattle.grammar.proofs.Texts.{text_of_lines}
-use Rattle.book.specs.Laws.{Accepted, IsExact, ReadAsStated}
+use Rattle.book.specs.Laws.{Accepted, ReadAsStated}
 use Rattle.book.specs.Loads.{load_lines, loaded}
 use Rattle.book.proofs.LoadSteps.{lines_end}
 use Rattle.book.proofs.Linewise.{Obeyed, line_obeyed}
@@ -52,7 +51,6 @@ module _ {C : Type 0} (m : Meaning C) where
     stated : List Rule
     lines_are : bytes_of ls ≡ rule_lines stated
     are_ended : all_ended ls ≡ true
-    exact : AllByRecursion IsExact stated
     adds : Accepted m a (map add stated)
     account_is : b ≡ history m a (map add stated)
 
@@ -62,7 +60,6 @@ module _ {C : Type 0} (m : Meaning C) where
     stated : List Rule
     lines_are : bytes_of ls ≡ map decision_line decided ++ rule_lines stated
     are_ended : all_ended ls ≡ true
-    exact : AllByRecursion IsExact stated
     opens : open_refusal (before ++ decided) ≡ None
     adds : Accepted m (fresh (before ++ decided)) (map add stated)
     account_is : b ≡ history m (fresh (before ++ decided)) (map add stated)
@@ -74,8 +71,7 @@ module _ {C : Type 0} (m : Meaning C) where
         let grounds = or_else_none (compose_refusal k ps price) (add_refusal a (composed k ps t price)) o.accepted in
         let made = rule_of k ps t price o.fits grounds.0 in
         let r = made.0 in
-        let is = made.1.0 in
-        let exact = made.1.1 in
+        let is = made.1 in
         let accepted : add_refusal a r.row ≡ None = ap (add_refusal a) is ∙ grounds.1 in
         let left : added m a k (composed k ps t price) ≡ after m a (add r) =
         ap (λ (w : Row). added m a w.kind w) (sym is) ∙ ap (after_if m a (add r)) (sym accepted) in
@@ -83,7 +79,6 @@ module _ {C : Type 0} (m : Meaning C) where
           stated = r ∷ rest.stated;
           lines_are = joined _ _ _ _ (o.bytes_are ∙ composed_line k ps t price ∙ ap rule_line (sym is)) rest.lines_are;
           are_ended = and_from l.ended (all_ended ls) o.is_ended rest.are_ended;
-          exact = (exact, rest.exact);
           adds = (accepted, subst (λ (c : Account C). Accepted m c (map add rest.stated)) left rest.adds);
           account_is = rest.account_is ∙ ap (λ (c : Account C). history m c (map add rest.stated)) left;
         }
@@ -94,7 +89,7 @@ module _ {C : Type 0} (m : Meaning C) where
 
   -- no line
   no_line : (began : Bool) (a b : Account C) → load_lines m began a [] ≡ Ok b → Adding [] a b
-  no_line began a b e = record { stated = []; lines_are = refl; are_ended = refl; exact = tt; adds = tt; account_is = ok_same b a (sym e ∙ lines_end m began a [] refl) }
+  no_line began a b e = record { stated = []; lines_are = refl; are_ended = refl; adds = tt; account_is = ok_same b a (sym e ∙ lines_end m began a [] refl) }
 
   -- behind a rule, lines state rules
   adding : (ls : List TextLine) (a b : Account C) → load_lines m true a ls ≡ Ok b → Adding ls a b
@@ -110,7 +105,6 @@ module _ {C : Type 0} (m : Meaning C) where
         stated = rest.stated;
         lines_are = rest.lines_are;
         are_ended = rest.are_ended;
-        exact = rest.exact;
         opens = ap open_refusal (append-nil before) ∙ started;
         adds = subst (λ (ds : List Decision). Accepted m (fresh ds) (map add rest.stated)) same rest.adds;
         account_is = rest.account_is ∙ ap (λ (ds : List Decision). history m (fresh ds) (map add rest.stated)) same;
@@ -141,7 +135,6 @@ module _ {C : Type 0} (m : Meaning C) where
         decisions = o.decided;
         rules = o.stated;
         text_is = text_of_lines text o.are_ended ∙ ap ended o.lines_are;
-        exact = o.exact;
         opens = o.opens;
         adds = o.adds;
         account_is = o.account_is;

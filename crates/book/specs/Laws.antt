@@ -1,21 +1,18 @@
 -- The laws of books as text: a book is read as the rules it states, load agrees with open and adds, and a written book loads as the same rules.
-use Rattle.std.specs.Prelude.{◌≡◌, ℕ, ◌+◌, ◌≤◌, true, List, [], ◌∷◌, ◌++◌, map, length, None, Ok, Option, Result}
+use Rattle.std.specs.Prelude.{◌≡◌, ℕ, ◌+◌, ◌≤◌, List, [], ◌∷◌, ◌++◌, map, length, None, Ok, Option, Result}
 use Rattle.std.specs.Option.{option_map}
 use Rattle.std.specs.List.{AllByRecursion}
 use Rattle.measure.specs.Meaning.{Meaning}
-use Rattle.measure.specs.declared.price.Price.{Price}
-use Rattle.rules.specs.Compose.{compose_refusal, composed, is_exact, new_rule}
 use Rattle.rules.specs.Conditions.{condition}
 use Rattle.rules.specs.Judging.{open_refusal}
 use Rattle.rules.specs.Plans.{Book}
 use Rattle.rules.specs.Refusals.{or_else}
 use Rattle.rules.specs.declared.decision.Decision.{Decision}
 use Rattle.rules.specs.declared.literal.Literal.{Literal}
-use Rattle.rules.specs.declared.row.Kind.{Kind}
 use Rattle.rules.specs.declared.row.Row.{Row}
 use Rattle.rules.specs.declared.rule.Rule.{Rule}
 use Rattle.account.specs.Accounts.{Account, fresh}
-use Rattle.account.specs.Calls.{Call, add, withdraw, rank, run, best, exclusion, unexcluded, after, history, refusal}
+use Rattle.account.specs.Calls.{Call, add, after, history, refusal}
 use Rattle.rendering.specs.Texts.{book_text}
 use Rattle.statements.specs.Statements.{fault, unless}
 use Rattle.statements.specs.declared.fault.Fault.{Fault}
@@ -31,30 +28,6 @@ ByteSized d = d.size ≤ 255
 
 abbrev pub BytePaired : Rule → Type 0
 BytePaired r = AllByRecursion (λ (l : Literal). (l.decision ≤ 255) × (l.value ≤ 255)) (condition r.row)
-
--- a rule has a target and a price in range, only what its kind has, and nothing behind its pairs, as every rule that new and compose make
-abbrev pub IsExact : Rule → Type 0
-IsExact r = is_exact r.row ≡ true
-
--- new, and compose of parts that it accepts, make such rules
-abbrev pub ComposedIsExact : Type 0
-ComposedIsExact =
-    (is_exact new_rule ≡ true)
-    × ((k : Kind) (ps : List Literal) (target : ℕ) (price : Price) → target ≤ 255 → price.tier ≤ 255 → compose_refusal k ps price ≡ None → is_exact (composed k ps target price) ≡ true)
-
--- a rule that this call adds is such a one
-abbrev pub AddIsExact : Call → Type 0
-AddIsExact (add r) = IsExact r
-AddIsExact (withdraw k place) = Unit {0}
-AddIsExact (rank d n) = Unit {0}
-AddIsExact (run budget) = Unit {0}
-AddIsExact (best buffer) = Unit {0}
-AddIsExact (exclusion d v) = Unit {0}
-AddIsExact (unexcluded d) = Unit {0}
-
--- every rule that these calls add is such a one
-abbrev pub AddsExact : List Call → Type 0
-AddsExact calls = AllByRecursion AddIsExact calls
 
 -- the rules of a book as they are written: forbid rules, activate rules, price rules, each in place order
 abbrev pub rows_of : Book → List Row
@@ -76,12 +49,11 @@ module _ {C : Type 0} (m : Meaning C) where
   added_from n a [] = Ok a
   added_from n a (r ∷ rs) = unless (option_map (λ e. fault e n 1) (refusal a (add r))) (added_from (n + 1) (after m a (add r)) rs)
 
-  -- a text that is accepted states decisions and rules: it is their text, each rule is as new and compose make them, open accepts the decisions, then add each rule, and the account is what they leave
+  -- a text that is accepted states decisions and rules: it is their text, open accepts the decisions, then add each rule, and the account is what they leave
   pub record Stating (text : List ℕ) (a : Account C) : Type 0 where
     pub decisions : List Decision
     pub rules : List Rule
     pub text_is : text ≡ stated_by decisions rules
-    pub exact : AllByRecursion IsExact rules
     pub opens : open_refusal decisions ≡ None
     pub adds : Accepted (fresh decisions) (map add rules)
     pub account_is : a ≡ history m (fresh decisions) (map add rules)
@@ -90,14 +62,14 @@ module _ {C : Type 0} (m : Meaning C) where
   abbrev pub ReadAsStated : List ℕ → Type 0
   ReadAsStated text = (a : Account C) → loaded m text ≡ Ok a → Stating text a
 
-  -- load agrees with open and adds of rules that new and compose make, refusals too
+  -- load agrees with open and adds, refusals too
   abbrev pub AgreesWithCalls : List ℕ → Type 0
   AgreesWithCalls text =
-      (ds : List Decision) (rs : List Rule) → text ≡ stated_by ds rs → length text ≤ 65536 → AllByRecursion ByteSized ds → AllByRecursion BytePaired rs → AllByRecursion IsExact rs
+      (ds : List Decision) (rs : List Rule) → text ≡ stated_by ds rs → length text ≤ 65536 → AllByRecursion ByteSized ds → AllByRecursion BytePaired rs
       → loaded m text ≡ unless (opened_from 1 [] ds) (added_from (length ds + 1) (fresh ds) rs)
 
-  -- what is written of a planner, whatever was called on it with rules that new and compose make, is loaded as the same decisions and rules in the same order
+  -- what is written of a planner, whatever was called on it, is loaded as the same decisions and rules in the same order
   abbrev pub LoadsBack : Type 0
   LoadsBack =
-      (ds : List Decision) → open_refusal ds ≡ None → (calls : List Call) → AddsExact calls
+      (ds : List Decision) → open_refusal ds ≡ None → (calls : List Call)
       → let b = (history m (fresh ds) calls).book in (a : Account C) × (loaded m (book_text b.decisions (rows_of b)) ≡ Ok a) × (a.book ≡ b)

@@ -2,13 +2,11 @@
 #![tactic(auto)]
 
 mod carrying;
-mod exact;
 mod loading;
 mod outcome;
 mod planning;
 mod texts;
 
-pub use exact::made_rules_are_exact;
 pub use loading::{MOST_BYTES, ROOM, load};
 pub use outcome::write_outcome;
 pub use planning::plan_book;

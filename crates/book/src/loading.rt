@@ -56,8 +56,7 @@ fn clear<M: Measure>(planner: &mut Planner<M>)
 /// Makes a planner one over the decisions that a text states, with the rules that it states, as open and then an add
 /// for each rule line would. Refuses with the fault of the text, by number, line and column; the planner is then one
 /// over no decisions. A text that is accepted is the text of its decisions and rules and of nothing else, and every
-/// text of decisions and of rules that new and compose make is loaded as open and the adds would have it, their
-/// refusals too.
+/// text of decisions and rules is loaded as open and the adds would have it, their refusals too.
 #[tactic(auto, using(crate::proofs::Agreeing::agrees, crate::proofs::LoadSteps::large_left, crate::proofs::LoadSteps::large_verdict, crate::proofs::Stating::read_as_stated))]
 pub fn load<M: Measure>(planner: &mut Planner<M>, text: &[u8]) -> Result<(), Fault>
     ensures value { result ≡ verdict (loaded M.meaning text.now) }

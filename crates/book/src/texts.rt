@@ -25,8 +25,8 @@ fn stated<M: Measure>(planner: &Planner<M>) -> BookText<'_>
 }
 
 /// Writes the book of a planner, its decisions and rules, as text, and answers the byte count; later bytes stay.
-/// Refuses a buffer that is too short, which then stays as it was. Whatever was called on the planner with rules that
-/// new and compose made, what is written is loaded as the same decisions and the same rules in the same order.
+/// Refuses a buffer that is too short, which then stays as it was. Whatever was called on the planner,
+/// what is written is loaded as the same decisions and the same rules in the same order.
 #[tactic(auto, using(crate::proofs::LoadedBack::loads_back))]
 pub fn write<M: Measure>(planner: &Planner<M>, buffer: &mut [u8]) -> Result<usize, Refusal>
     ensures value { result ≡ counted (book_text (account_of planner.now).book.decisions (rows_of (account_of planner.now).book)) buffer.old }

@@ -1,4 +1,4 @@
--- A rule whose row is exact is what compose makes of the rule's own parts, which compose accepts.
+-- A rule is what compose makes of the rule's own parts, which compose accepts.
 use Rattle.std.proofs.Common.{◌≡◌, ℕ, ◌-◌, ◌≤◌, Bool, true, false, cond, ◌&&◌, ◌||◌, eqb, ltb, leb, List, [], ◌∷◌, ◌++◌, length, take, drop, replicate, None, sym, refl, ap, ◌∙◌, arith, length-drop, take-append-drop, length-take}
 use Rattle.std.proofs.lemmas.Bool.{and_parts, leb-true, le-leb, le-ltb, eqb-true, and_right}
 use Rattle.measure.specs.declared.price.Price.{Price}
@@ -41,11 +41,10 @@ refilled n ps few full h =
     sym (take-append-drop n ps)
     ∙ ap (λ (rest : List Literal). take n ps ++ rest) (blank_places (drop n ps) h ∙ ap (λ (m : ℕ). replicate m blank) room)
 
--- the parts of an exact row
-parts : (r : Row) → is_exact r ≡ true
-    → (in_range r.price ≡ true) × ((is_activate r.kind || eqb r.target 0) ≡ true) × ((is_price r.kind || is_free r.price) ≡ true) × (blanks (drop r.count r.pairs) ≡ true)
-unfolding is_exact
-parts r h =
+-- what an exact row keeps: a target and a price in range, those only that its kind has, and nothing behind its pairs
+pub exact_parts : (r : Row) → is_exact r ≡ true
+    → (leb r.target 255 ≡ true) × (in_range r.price ≡ true) × ((is_activate r.kind || eqb r.target 0) ≡ true) × ((is_price r.kind || is_free r.price) ≡ true) × (blanks (drop r.count r.pairs) ≡ true)
+exact_parts r h =
     let target = leb r.target 255 in
     let range = in_range r.price in
     let aimed = is_activate r.kind || eqb r.target 0 in
@@ -53,7 +52,8 @@ parts r h =
     let (front, rest) = and_parts (target && range && aimed && priced) (blanks (drop r.count r.pairs)) h in
     let (fore, price) = and_parts (target && range && aimed) priced front in
     let (ranges, aim) = and_parts (target && range) aimed fore in
-    ((and_parts target range ranges).1, aim, price, rest)
+    let (low, inside) = and_parts target range ranges in
+    (low, inside, aim, price, rest)
 
 condition_length : (r : Row) → r.count ≤ 4 → length r.pairs ≡ 4 → r.count ≡ length (condition r)
 condition_length r few full = omega (arith, length-take r.count r.pairs)
@@ -62,22 +62,22 @@ same_rows : (k : Kind) (c d : ℕ) (ps qs : List Literal) (t u : ℕ) (p q : Pri
     → ◌≡◌ {A = Row} (record { kind = k; count = c; pairs = ps; target = t; price = p }) (record { kind = k; count = d; pairs = qs; target = u; price = q })
 same_rows k c d ps qs t u p q count pairs target price = cc
 
-pub rule_composed : (r : Rule) → is_exact r.row ≡ true → r.row ≡ composed r.row.kind (condition r.row) r.row.target r.row.price
-rule_composed r exact =
+pub rule_composed : (r : Rule) → r.row ≡ composed r.row.kind (condition r.row) r.row.target r.row.price
+rule_composed r =
     let row = r.row in
-    let (range, aimed, priced, rest) = parts row exact in
+    let (low, range, aimed, priced, rest) = exact_parts row r.exact in
     let count = condition_length row r.few r.full in
     let pairs = refilled row.count row.pairs r.few r.full rest in
     let target = kept (is_activate row.kind) (eqb row.target 0) row.target 0 (eqb-true row.target 0) aimed in
     let price = kept (is_price row.kind) (is_free row.price) row.price free (free_price row.price) priced in
     same_rows row.kind _ _ _ _ _ _ _ _ count pairs target price
 
-pub rule_accepted : (r : Rule) → is_exact r.row ≡ true → compose_refusal r.row.kind (condition r.row) r.row.price ≡ None
-rule_accepted r exact =
+pub rule_accepted : (r : Rule) → compose_refusal r.row.kind (condition r.row) r.row.price ≡ None
+rule_accepted r =
     let row = r.row in
     let ps = condition row in
     let count = condition_length row r.few r.full in
-    let (tier, cents) = and_parts (leb row.price.tier 255) (leb row.price.cents 1000000000) (parts row exact).0 in
+    let (tier, cents) = and_parts (leb row.price.tier 255) (leb row.price.cents 1000000000) (exact_parts row r.exact).1 in
     let some = le-leb 1 (length ps) (omega (arith, r.some)) in
     let few = le-leb (length ps) 4 (omega (arith, r.few)) in
     let cheap = and_right (is_price row.kind) (ltb 1000000000 row.price.cents) (le-ltb 1000000000 row.price.cents (leb-true row.price.cents 1000000000 cents)) in

@@ -75,6 +75,6 @@ abbrev pub blanks : List Literal → Bool
 blanks ls = list_all (λ l. l.decision == 0 && l.value == 0) ls
 
 -- a row states a target and a price in range, those only that its kind has, and nothing behind its pairs
-unfoldable pub is_exact : Row → Bool
+abbrev pub is_exact : Row → Bool
 is_exact r =
     nat_le r.target 255 && in_range r.price && (is_activate r.kind || r.target == 0) && (is_price r.kind || is_free r.price) && blanks (drop r.count r.pairs)

@@ -1,13 +1,13 @@
 //! A rule, whose type keeps the shape that every rule has.
 ghost use Rattle.std.specs.Prelude.{◌≡◌, ◌≤◌, true, length, Some, None, MatchResult};
-ghost use Rattle.rules.specs.Compose.{ascends, compose_refusal, composed, new_rule};
+ghost use Rattle.rules.specs.Compose.{ascends, compose_refusal, composed, is_exact, new_rule};
 ghost use Rattle.rules.specs.Conditions.{condition};
 ghost use Rattle.rules.specs.Refusals.{as_result, unless_refused};
 
 use crate::{Kind, Literal, Refusal, Row, compose};
 use measure::Price;
 
-/// A rule: one to four pairs in strictly ascending order of decision.
+/// A rule: one to four pairs in strictly ascending order of decision, and beside them only what its kind has.
 // `full` is what the array's type says: the proofs of a rule's parts, which see no type, have it from here.
 #[derive(Clone, Copy)]
 pub struct Rule {
@@ -16,6 +16,7 @@ pub struct Rule {
     ghost few: { row.count ≤ 4 },
     ghost full: { length row.pairs ≡ 4 },
     ghost ascending: { ascends (condition row) ≡ true },
+    ghost exact: { is_exact row ≡ true },
 }
 
 impl Rule {
