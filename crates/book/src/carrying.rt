@@ -17,14 +17,14 @@ use rules::{Decision, MOST_DECISIONS, Refusal, Rule};
 use statements::{Parts, Statement};
 
 /// Room for one decision more than a planner has.
-const ROOM: usize = MOST_DECISIONS + 1;
+const ONE_MORE: usize = MOST_DECISIONS + 1;
 
 /// Opens a planner over its decisions and one more.
 fn open_with<M: Measure>(planner: &mut Planner<M>, decision: Decision) -> Result<(), Refusal>
     ensures value { result ≡ as_result (open_refusal ((account_of planner.old).book.decisions ++ decision ∷ [])) }
     ensures after { account_of planner.new ≡ unless_refused (open_refusal ((account_of planner.old).book.decisions ++ decision ∷ [])) (account_of planner.old) (fresh ((account_of planner.old).book.decisions ++ decision ∷ [])) }
 {
-    let mut decisions = ArrayVec::<Decision, ROOM>::new();
+    let mut decisions = ArrayVec::<Decision, ONE_MORE>::new();
     // Never refused: proved.
     decisions
         .try_extend_from_slice(planner.decisions())

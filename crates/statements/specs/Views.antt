@@ -1,18 +1,19 @@
 -- What values of the code stand for.
-use Rattle.std.specs.Prelude.{◌≡◌, ℕ, ◌+◌, Bool, List, length, take, drop, IfSome, None, Ok, Err, Option, Result}
+use Rattle.std.specs.Prelude.{◌≡◌, ℕ, ◌+◌, ◌-◌, Bool, List, length, take, drop, IfSome, None, Ok, Err, Option, Result}
 use Rattle.std.specs.Iterator.{YieldsFirstBy}
 use Rattle.rules.specs.declared.literal.Literal.{Literal}
 use Rattle.reading.specs.Cursors.{column, left}
 use Rattle.reading.specs.Numbers.{number_up_to}
 use Rattle.statements.specs.Forms.{mark_of, pair_of}
 use Rattle.statements.specs.Lines.{TextLine, numbered}
-use Rattle.statements.specs.Statements.{Stated, decides, past, rules}
+use Rattle.statements.specs.Statements.{Stated, decides, front, past, rules}
 use Rattle.statements.specs.declared.fields.Fields.{Fields}
 use Rattle.statements.specs.declared.line.Line.{Line}
 use Rattle.statements.specs.declared.lines.Lines.{Lines}
 use Rattle.statements.specs.declared.pairs.Pairs.{Pairs}
 use Rattle.statements.specs.declared.statement.Statement.{Statement}
 use Rattle.statements.specs.declared.statement.Statement.TheVariants.{Decision, Rule}
+use Rattle.statements.specs.declared.token.Placed.{Placed}
 use Rattle.statements.specs.declared.token.Token.{Token}
 use Rattle.statements.specs.declared.token.Token.TheVariants.{Number, Mark, Pair}
 
@@ -31,6 +32,12 @@ Given f r g = YieldsFirstBy line_of left_lines f r g × IfSome r (λ l. l.bytes.
 -- the pairs in use
 abbrev pub pairs_of : Pairs → List Literal
 pairs_of p = take p.count p.list
+
+-- the part of a text that a token holds
+abbrev pub part_of : Token → List ℕ
+part_of (Number part) = part.now
+part_of (Mark part) = part.now
+part_of (Pair part) = part.now
 
 -- the number, the mark or the pair that a token is, if it is of that form
 abbrev pub number_in : ℕ → Token → Option ℕ
@@ -54,6 +61,13 @@ remaining f = left f.pieces
 
 abbrev pub place : Fields → ℕ
 place f = column f.pieces
+
+-- a field handed on: the next one, as the part of its line that begins at its column, with the line's number and that column
+pub record HandedOn (f : Fields) (p : Placed) : Type 0 where
+  pub field : part_of p.token ≡ front (remaining f)
+  pub part : part_of p.token ≡ take (length (part_of p.token)) (drop (p.column - 1) f.pieces.text.now)
+  pub line : p.line ≡ f.line
+  pub column : p.column ≡ place f
 
 -- a field taken: the cursor goes on to the next
 pub record Advanced (f g : Fields) : Type 0 where

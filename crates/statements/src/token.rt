@@ -3,7 +3,7 @@ ghost use Rattle.std.specs.Prelude.{◌≡◌, List, ℕ, [], None, Option, refl
 ghost use Rattle.reading.specs.Numbers.{number_up_to};
 ghost use Rattle.statements.specs.Forms.{mark_of, nothing_is_no_number, nothing_is_no_pair, pair_of};
 ghost use Rattle.statements.specs.Statements.{formed};
-ghost use Rattle.statements.specs.Views.{mark_in, number_in, pair_in};
+ghost use Rattle.statements.specs.Views.{mark_in, number_in, pair_in, part_of};
 ghost use Rattle.statements.specs.declared.token.Token.{Token};
 
 use crate::Fault;
@@ -25,9 +25,10 @@ pub trait Form: Sized {
 
     ghost held: { Token → Option Self };
 
-    /// A field as the token of this form.
+    /// A field as the token of this form, which is the part of the text that the field is.
     fn token(field: &[u8]) -> Token<'_>
-        ensures { held result ≡ form field.now };
+        ensures held { held result ≡ form field.now }
+        ensures part { part_of result ≡ field.now };
 
     /// What the token is, if it is of this form.
     fn of(token: Token) -> Option<Self>

@@ -1,15 +1,15 @@
 //! Taking the fields of a line, each in its form.
-ghost use Rattle.std.specs.Prelude.{◌≡◌, ◌-◌, List, [], ◌∷◌, length, take, drop, MatchResult};
+ghost use Rattle.std.specs.Prelude.{◌≡◌, List, [], ◌∷◌, take, MatchResult};
 ghost use Rattle.reading.specs.Numbers.{number_up_to};
 ghost use Rattle.rules.specs.declared.refusal.Refusal.TheVariants.{MalformedField};
 ghost use Rattle.statements.specs.Fields.{fields_of};
 ghost use Rattle.statements.specs.Forms.{mark_of};
 ghost use Rattle.statements.specs.Statements.{fault, formed, front, read_pairs};
-ghost use Rattle.statements.specs.Views.{Advanced, on_ok, pairs_of, place, remaining};
+ghost use Rattle.statements.specs.Views.{Advanced, HandedOn, on_ok, pairs_of, part_of, place, remaining};
 
 use crate::fields::Fields;
 use crate::known::KnownLine;
-use crate::token::{Form, Placed, Token};
+use crate::token::{Form, Placed};
 use crate::{Fault, Pairs};
 use reading::Piece;
 use rules::{Literal, Refusal};
@@ -34,28 +34,33 @@ impl<'a> Fields<'a> {
         self.line
     }
 
-    /// A field of the line as the token that its place asks for.
-    fn placed(&self, token: Token<'a>, column: usize) -> Placed<'a>
-        ensures { result ≡ record { token = token.entry; line = self.now.line; column = column } }
+    /// A piece of the line as the token that its place asks for, with its line and column.
+    fn placed<T: Form>(&self, piece: Piece<'a>) -> Placed<'a>
+        ensures token { T.held result.token ≡ T.form piece.entry.bytes.now }
+        ensures part { part_of result.token ≡ piece.entry.bytes.now }
+        ensures line { result.line ≡ self.now.line }
+        ensures column { result.column ≡ piece.entry.column }
     {
         Placed {
-            token,
+            token: T::token(piece.bytes),
             line: self.line,
-            column,
+            column: piece.column,
         }
     }
 
-    /// The next field, or the fault of a field that is missing.
-    fn take(&mut self) -> Result<Piece<'a>, Fault>
-        ensures value { MatchResult result (λ p. (front (remaining self.old) ≡ p.bytes.now) × (p.column ≡ place self.old) × (p.bytes.now ≡ take (length p.bytes.now) (drop (p.column - 1) self.old.pieces.text.now))) (λ e. (remaining self.old ≡ []) × (e ≡ fault MalformedField self.old.line (place self.old))) }
+    /// The next field as the token that its place asks for: the part of the line that it occupies. Or the fault of a
+    /// field that is missing.
+    fn token<T: Form>(&mut self) -> Result<Placed<'a>, Fault>
+        ensures value { MatchResult result (λ p. (T.held p.token ≡ T.form (front (remaining self.old))) × HandedOn self.old p) (λ e. (remaining self.old ≡ []) × (e ≡ fault MalformedField self.old.line (place self.old))) }
         ensures after { Advanced self.old self.new }
     {
         let column = self.pieces.column();
-        self.pieces.next().ok_or(Fault {
+        let piece = self.pieces.next().ok_or(Fault {
             refusal: Refusal::MalformedField,
             line: self.line,
             column,
-        })
+        })?;
+        Ok(self.placed::<T>(piece))
     }
 
     /// The next field, in the form that its place asks for.
@@ -63,8 +68,7 @@ impl<'a> Fields<'a> {
         ensures value { result ≡ formed self.old.line (place self.old) (T.form (front (remaining self.old))) }
         ensures after { Advanced self.old self.new }
     {
-        let field = self.take()?;
-        self.placed(T::token(field.bytes), field.column).formed()
+        self.token::<T>()?.formed()
     }
 
     /// The fields to come, as pairs.
@@ -74,8 +78,7 @@ impl<'a> Fields<'a> {
     {
         let mut pairs = Pairs::new();
         for field in self.pieces {
-            let placed = self.placed(Literal::token(field.bytes), field.column);
-            let pair = placed.formed()?;
+            let pair = self.placed::<Literal>(field).formed()?;
             pairs.push(pair);
         }
         Ok(pairs)
