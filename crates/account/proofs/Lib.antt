@@ -5,6 +5,7 @@ pub mod Retreats
 pub mod Bound
 pub mod SameRules
 pub mod WorkedShown
+pub mod EdgesShown
 pub mod Meeting
 pub mod Prices
 pub mod Trails

@@ -5,3 +5,4 @@ pub mod Changes
 pub mod Calls
 pub mod Law
 pub mod Worked
+pub mod Edges

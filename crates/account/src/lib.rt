@@ -2,6 +2,7 @@
 #![tactic(auto)]
 
 ghost use Rattle.account.specs.Law.{LawfulIsTested, Planning};
+ghost use Rattle.account.specs.Edges.{EdgesShown};
 ghost use Rattle.account.specs.Worked.{AllShown};
 
 mod state;
@@ -17,6 +18,12 @@ pub fn planning_law<M: Measure>()
 /// The worked cases come out as they are stated.
 pub fn worked_cases()
     ensures { AllShown }
+{}
+
+/// Each call refuses at its edges as it is stated.
+#[tactic(auto, using(crate::proofs::EdgesShown::edges_shown))]
+pub fn edge_cases()
+    ensures { EdgesShown }
 {}
 
 /// The test that decides whether a best stays tells lawful plans from the others.

@@ -3,3 +3,4 @@ pub mod Forms
 pub mod Lines
 pub mod Texts
 pub mod LinesShown
+pub mod TextsShown

@@ -1,3 +1,4 @@
 pub mod Grammar
 pub mod Laws
 pub mod Shown
+pub mod Written

@@ -4,6 +4,7 @@
 
 ghost use Rattle.grammar.specs.Laws.{LinesOfText, ReadsOnlyText, TextIsRead, TextOfLines};
 ghost use Rattle.grammar.specs.Shown.{TrickyLines};
+ghost use Rattle.grammar.specs.Written.{TextsShown};
 
 /// A line is read as what it states, and only that.
 pub fn lines_are_read_back()
@@ -20,4 +21,10 @@ pub fn texts_are_lines()
 /// Tricky lines, and what each states or why it is refused.
 pub fn tricky_lines()
     ensures { TrickyLines }
+{}
+
+/// The texts of a book, of faults and of outcomes, written out.
+#[tactic(auto, using(crate::proofs::TextsShown::texts_shown))]
+pub fn written_texts()
+    ensures { TextsShown }
 {}

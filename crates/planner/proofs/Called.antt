@@ -50,8 +50,8 @@ front_of : (plan : List ℕ) (n : ℕ) → n ≤ length plan → take n plan ≡
 front_of plan n l = fill_by_all (from_bytes plan) (take n plan) n 0 (omega (arith, length-take n plan)) (λ k h. get_or-take n plan k 0 h)
 
 -- a plan that is written in front of a buffer
-pub plan_written : (plan buffer front : List ℕ) (n : ℕ) → n ≤ length plan → front ≡ take (n - 0) plan → front ++ drop (n - 0) buffer ≡ written n (from_bytes plan) buffer
-plan_written plan buffer front n l e =
+pub written_plan : (plan buffer front : List ℕ) (n : ℕ) → n ≤ length plan → front ≡ take (n - 0) plan → front ++ drop (n - 0) buffer ≡ written n (from_bytes plan) buffer
+written_plan plan buffer front n l e =
     let k = sub-zero n in
     ap₂ (λ (xs ys : List ℕ). xs ++ ys) (e ∙ ap (λ (j : ℕ). take j plan) k ∙ front_of plan n l) (ap (λ (j : ℕ). drop j buffer) k)
 
@@ -59,7 +59,7 @@ plan_written plan buffer front n l e =
 pub best_reported : {C : Type 0} (m : Meaning C) (a : Account C) (n : ℕ) (plan buffer front : List ℕ) (b : Best C) → n ≡ length a.book.decisions → n ≤ length plan → n ≤ length buffer
     → a.best ≡ Some b → b.plan ≡ from_bytes plan → front ≡ take (n - 0) plan → reported a.state (Some b.cost) (front ++ drop (n - 0) buffer) ≡ answer m a (best buffer)
 best_reported m a n plan buffer front b e l room held p f =
-    ap (reported a.state (Some b.cost)) (plan_written plan buffer front n l f ∙ ap (λ (q : ℕ → ℕ). written n q buffer) (sym p))
+    ap (reported a.state (Some b.cost)) (written_plan plan buffer front n l f ∙ ap (λ (q : ℕ → ℕ). written n q buffer) (sym p))
     ∙ ap₂ (λ (k : ℕ) (o : Option (Best _)). report a.state k buffer o) e (sym held)
     ∙ (accepts m a (best buffer) (long_buffer (length a.book.decisions) (length buffer) (omega arith))).0
 
