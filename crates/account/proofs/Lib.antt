@@ -6,6 +6,7 @@ pub mod Bound
 pub mod SameRules
 pub mod WorkedShown
 pub mod EdgesShown
+pub mod SnapshotsShown
 pub mod Meeting
 pub mod Prices
 pub mod Trails

@@ -6,3 +6,4 @@ pub mod Calls
 pub mod Law
 pub mod Worked
 pub mod Edges
+pub mod Snapshots

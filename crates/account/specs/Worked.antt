@@ -27,12 +27,16 @@ pair d v = record { decision = d; value = v }
 abbrev pub ruled : (k : Kind) (l : Literal) (target : ℕ) (price : Price) → is_exact (composed k (l ∷ []) target price) ≡ true → Rule
 ruled k l target price h = record { row = composed k (l ∷ []) target price; some = lit≤ tt; few = lit≤ tt; full = refl; ascending = ap (λ (t : Bool). t && true) (leb-zero l.decision); exact = h }
 
+-- a rule of two pairs and no target, likewise
+abbrev pub ruled_both : (n : Kind) (l k : Literal) (price : Price) → ascends (l ∷ k ∷ []) ≡ true → is_exact (composed n (l ∷ k ∷ []) 0 price) ≡ true → Rule
+ruled_both n l k price order h = record { row = composed n (l ∷ k ∷ []) 0 price; some = lit≤ tt; few = lit≤ tt; full = refl; ascending = order; exact = h }
+
 -- forbid one pair, or two
 abbrev pub forbid : Literal → Call
 forbid l = add (ruled Forbid l 0 free refl)
 
 abbrev pub forbid_both : (l k : Literal) → ascends (l ∷ k ∷ []) ≡ true → Call
-forbid_both l k h = add (record { row = composed Forbid (l ∷ k ∷ []) 0 free; some = lit≤ tt; few = lit≤ tt; full = refl; ascending = h; exact = refl })
+forbid_both l k h = add (ruled_both Forbid l k free h refl)
 
 -- a pair activates a target
 abbrev pub activate : Literal → (target : ℕ) → nat_le target 255 ≡ true → Call
@@ -41,6 +45,10 @@ activate l target h = add (ruled Activate l target free (ap (λ (t : Bool). t &&
 -- a pair has a price, by tier and cents
 abbrev pub charge : Literal → (t c : ℕ) → in_range (record { tier = t; cents = c }) ≡ true → Call
 charge l t c h = add (ruled Priced l 0 (record { tier = t; cents = c }) (ap (λ (t : Bool). t && true && true && true) h))
+
+-- two pairs together have a price, in cents
+abbrev pub charge_both : (l k : Literal) → ascends (l ∷ k ∷ []) ≡ true → (c : ℕ) → in_range (record { tier = 0; cents = c }) ≡ true → Call
+charge_both l k order c h = add (ruled_both Priced l k (record { tier = 0; cents = c }) order (ap (λ (t : Bool). t && true && true && true) h))
 
 abbrev pub on : ℕ → Decision
 on n = record { size = n; on = true }

@@ -3,6 +3,7 @@
 
 ghost use Rattle.account.specs.Law.{LawfulIsTested, Planning};
 ghost use Rattle.account.specs.Edges.{EdgesShown};
+ghost use Rattle.account.specs.Snapshots.{SnapshotsShown};
 ghost use Rattle.account.specs.Worked.{AllShown};
 
 mod state;
@@ -24,6 +25,12 @@ pub fn worked_cases()
 #[tactic(auto, using(crate::proofs::EdgesShown::edges_shown))]
 pub fn edge_cases()
     ensures { EdgesShown }
+{}
+
+/// Small books hold what is stated after steps and after each change of rules.
+#[tactic(auto, using(crate::proofs::SnapshotsShown::snapshots_shown))]
+pub fn snapshots()
+    ensures { SnapshotsShown }
 {}
 
 /// The test that decides whether a best stays tells lawful plans from the others.
