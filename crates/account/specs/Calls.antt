@@ -41,7 +41,7 @@ add_refusal a r = or_else (row_refusal a.book.decisions r) (when (nat_le 256 (le
 
 -- on which ground a call is refused
 abbrev pub refusal : {C : Type 0} → Account C → Call → Option Refusal
-refusal a (add r) = or_else (row_refusal a.book.decisions r.row) (when (nat_le 256 (length (held a.book r.row.kind))) TableFull)
+refusal a (add r) = add_refusal a r.row
 refusal a (withdraw k place) = when (nat_le (length (held a.book k)) place) NoSuchRule
 refusal a (rank d n) = when (nat_le (length a.book.decisions) d) UnknownDecision
 refusal a (run budget) = when (nat_lt 1000000 budget) BudgetTooLarge

@@ -28,8 +28,9 @@ fn run_long(planner: &mut Planner<TierThenCents>)
     }
 }
 
-/// Loads a book, makes up to 100 runs of 100,000 steps, and writes the text of the outcome or of the fault. Answers the
-/// byte count; later bytes stay. Refuses a buffer that is too short, which then stays as it was.
+/// Loads a book, makes 100 runs of up to 100,000 steps, and writes the text of the outcome or of the fault. Answers the
+/// byte count; later bytes stay. Refuses a buffer that is too short, which then stays as it was; the planner has been
+/// loaded and run by then.
 pub fn plan_book(
     planner: &mut Planner<TierThenCents>,
     text: &[u8],

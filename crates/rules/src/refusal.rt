@@ -11,9 +11,9 @@ pub enum Refusal {
     SizeOutOfRange = 2,
     /// The pairs are not one to four.
     PairCount = 3,
-    /// A pair or a target names a decision that there is not.
+    /// A pair, a target or what a call asks about is a decision that there is not.
     UnknownDecision = 4,
-    /// A pair names a value that its decision has not.
+    /// A pair, or what a call asks about, is a value that its decision has not.
     UnknownValue = 5,
     /// The decisions of the pairs do not strictly ascend.
     NotAscending = 6,
@@ -25,7 +25,7 @@ pub enum Refusal {
     NoSuchRule = 9,
     /// The budget is over 1,000,000 steps.
     BudgetTooLarge = 10,
-    /// The plan's bytes are fewer than the decisions.
+    /// A plan, or the buffer for one, has fewer bytes than there are decisions.
     ShortPlan = 11,
     /// A line's first byte is no kind, or lacks its space.
     UnknownLine = 12,
@@ -35,7 +35,7 @@ pub enum Refusal {
     FieldCount = 14,
     /// A decision is stated after a rule.
     DecisionAfterRule = 15,
-    /// The book is over its largest size.
+    /// The book is over 65,536 bytes.
     BookTooLarge = 16,
     /// The buffer is too short for the text.
     ShortText = 17,
