@@ -10,3 +10,4 @@ pub mod Rulings
 pub mod Linewise
 pub mod Agreeing
 pub mod Stating
+pub mod TextsPlanned

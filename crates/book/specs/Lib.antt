@@ -2,3 +2,4 @@ pub mod Loads
 pub mod Steps
 pub mod Outcomes
 pub mod Laws
+pub mod Shown

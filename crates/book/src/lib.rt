@@ -5,9 +5,11 @@ mod carrying;
 mod loading;
 mod outcome;
 mod planning;
+mod shown;
 mod texts;
 
 pub use loading::{MOST_BYTES, ROOM, load};
 pub use outcome::write_outcome;
 pub use planning::plan_book;
+pub use shown::small_texts;
 pub use texts::{write, write_fault};
