@@ -13,15 +13,15 @@ lines_read = record { decision = refl; forbid = refl; activate = refl; price = r
 
 kinds_shown : KindsShown
 unfolding first_bad number_up_to pair_of pieces read_activate read_decision read_forbid read_line read_pairs read_price
-kinds_shown = record { empty = refl; spaceless = refl; lower_case = refl; late = refl }
+kinds_shown = record { empty = refl; spaceless = refl; lower_case = refl; late = refl; late_spaceless = refl }
 
 counts_shown : CountsShown
 unfolding first_bad number_up_to pair_of pieces read_activate read_decision read_forbid read_line read_pairs read_price
-counts_shown = record { nothing = refl; trailing_space = refl; two_spaces = refl; missing = refl; too_many = refl; endless = refl; before_forms = refl }
+counts_shown = record { nothing = refl; trailing_space = refl; two_spaces = refl; missing = refl; missing_mark = refl; too_many = refl; endless = refl; before_forms = refl }
 
 forms_shown : FormsShown
 unfolding first_bad number_up_to pair_of pieces read_activate read_decision read_forbid read_line read_pairs read_price
-forms_shown = record { leading_zero = refl; zero = refl; large = refl; mark = refl; two_signs = refl; leftmost = refl; large_cents = refl }
+forms_shown = record { leading_zero = refl; zero = refl; large = refl; mark = refl; two_signs = refl; leftmost = refl; large_cents = refl; behind_target = refl; behind_cents = refl }
 
 pairs_shown : PairsShown
 unfolding first_bad number_up_to pair_of pieces read_activate read_decision read_forbid read_line read_pairs read_price

@@ -33,6 +33,7 @@ pub record KindsShown : Type 0 where
   pub lower_case : fourth (codes "f 1=1") ≡ faulty UnknownLine 1
   -- a decision after a rule is refused whatever its fields are
   pub late : read_line true (record { bytes = codes "D x"; number = 4; ended = true }) ≡ faulty DecisionAfterRule 1
+  pub late_spaceless : read_line true (record { bytes = codes "D"; number = 4; ended = true }) ≡ faulty UnknownLine 1
 
 -- fields that are empty, missing or too many, and a missing end: the leftmost is reported, what is missing one past the line
 pub record CountsShown : Type 0 where
@@ -40,6 +41,7 @@ pub record CountsShown : Type 0 where
   pub trailing_space : fourth (codes "A 1 ") ≡ faulty FieldCount 5
   pub two_spaces : fourth (codes "D  3 on") ≡ faulty FieldCount 3
   pub missing : fourth (codes "P 0") ≡ faulty FieldCount 4
+  pub missing_mark : fourth (codes "D 16") ≡ faulty FieldCount 5
   pub too_many : fourth (codes "D 3 on x") ≡ faulty FieldCount 8
   pub endless : read_line false (record { bytes = codes "D 3 on"; number = 4; ended = false }) ≡ faulty FieldCount 7
   -- before a field that is not of its form
@@ -54,6 +56,8 @@ pub record FormsShown : Type 0 where
   pub two_signs : fourth (codes "F 1=1=2") ≡ faulty MalformedField 3
   pub leftmost : fourth (codes "F 1=1 x y") ≡ faulty MalformedField 7
   pub large_cents : fourth (codes "P 0 4294967296 0=1") ≡ faulty MalformedField 5
+  pub behind_target : fourth (codes "A 12 x") ≡ faulty MalformedField 6
+  pub behind_cents : fourth (codes "P 10 600 0=1 x") ≡ faulty MalformedField 14
 
 -- pairs that are missing or more than four
 pub record PairsShown : Type 0 where

@@ -1,14 +1,15 @@
 -- Texts, written out. All follow by computing from the definitions.
-use Rattle.std.specs.Prelude.{◌≡◌, ℕ, true, false, List, [], ◌∷◌, Some, None, codes, Option}
+use Rattle.std.specs.Prelude.{◌≡◌, ℕ, true, false, List, [], ◌∷◌, Some, None, Ok, Err, codes, Option}
 use Rattle.measure.specs.declared.cents.Cents.{Cents}
 use Rattle.measure.specs.declared.pair.Pair.{Pair}
 use Rattle.measure.specs.declared.tier.Tier.{Tier}
 use Rattle.rules.specs.Compose.{composed, free}
 use Rattle.rules.specs.declared.decision.Decision.{Decision}
-use Rattle.rules.specs.declared.refusal.Refusal.TheVariants.{PairCount, MalformedField, TableFull}
+use Rattle.rules.specs.declared.refusal.Refusal.TheVariants.{PairCount, MalformedField, TableFull, ShortText}
 use Rattle.rules.specs.declared.row.Kind.TheVariants.{Forbid, Activate, Price as Priced}
 use Rattle.rules.specs.declared.row.Row.{Row}
 use Rattle.account.specs.declared.state.State.TheVariants.{Open, Settled}
+use Rattle.rendering.specs.Fills.{counted, filled}
 use Rattle.rendering.specs.Texts.{book_text, ended, fault_text, outcome_text}
 use Rattle.grammar.specs.Shown.{pair}
 
@@ -25,6 +26,15 @@ rules =
 abbrev pub costing : ℕ → ℕ → Option (Pair Tier Cents)
 costing t c = Some (record { first = record { level = t }; second = record { sum = c } })
 
+-- a text written into a buffer that is longer, as long, or a byte shorter
+pub record FillsShown : Type 0 where
+  pub longer : filled (codes "ab") (9 ∷ 9 ∷ 9 ∷ []) ≡ 97 ∷ 98 ∷ 9 ∷ []
+  pub longer_count : counted (codes "ab") (9 ∷ 9 ∷ 9 ∷ []) ≡ Ok 2
+  pub as_long : filled (codes "ab") (9 ∷ 9 ∷ []) ≡ codes "ab"
+  pub as_long_count : counted (codes "ab") (9 ∷ 9 ∷ []) ≡ Ok 2
+  pub shorter : filled (codes "ab") (9 ∷ []) ≡ 9 ∷ []
+  pub shorter_count : counted (codes "ab") (9 ∷ []) ≡ Err ShortText
+
 -- the texts of a book, of faults and of outcomes
 pub record TextsShown : Type 0 where
   pub book : book_text decisions rules ≡ ended (codes "D 2 on" ∷ codes "D 16 off" ∷ codes "F 0=2 1=13" ∷ codes "A 1 0=1" ∷ codes "P 3 1000000000 1=10" ∷ [])
@@ -38,3 +48,8 @@ pub record TextsShown : Type 0 where
   pub none : outcome_text Settled None (0 ∷ 0 ∷ []) ≡ ended (codes "none" ∷ [])
   -- byte 10 ends each line
   pub lines : ended (codes "A" ∷ codes "B" ∷ []) ≡ 65 ∷ 10 ∷ 66 ∷ 10 ∷ []
+
+-- all of them
+pub record AllWritten : Type 0 where
+  pub texts : TextsShown
+  pub fills : FillsShown

@@ -4,7 +4,7 @@
 
 ghost use Rattle.grammar.specs.Laws.{LinesOfText, ReadsOnlyText, TextIsRead, TextOfLines};
 ghost use Rattle.grammar.specs.Shown.{TrickyLines};
-ghost use Rattle.grammar.specs.Written.{TextsShown};
+ghost use Rattle.grammar.specs.Written.{AllWritten};
 
 /// A line is read as what it states, and only that.
 pub fn lines_are_read_back()
@@ -23,8 +23,8 @@ pub fn tricky_lines()
     ensures { TrickyLines }
 {}
 
-/// The texts of a book, of faults and of outcomes, written out.
-#[tactic(auto, using(crate::proofs::TextsShown::texts_shown))]
+/// The texts of a book, of faults and of outcomes, written out, and texts written into a buffer.
+#[tactic(auto, using(crate::proofs::TextsShown::all_written))]
 pub fn written_texts()
-    ensures { TextsShown }
+    ensures { AllWritten }
 {}
