@@ -45,5 +45,5 @@ fn show_all(rt: &HostRuntime, frames: &[u8]) -> anyhow::Result<()> {
 
 fn main(rt: HostRuntime) -> anyhow::Result<()> {
     let mut buffer = [0; INPUT];
-    show_all(&rt, read_input(&rt, &mut buffer)?)
+    show_all(&rt, read_input(&mut rt.stdin(), &mut buffer)?)
 }

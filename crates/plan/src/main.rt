@@ -9,7 +9,7 @@ use std::io::Write;
 
 fn main(rt: HostRuntime) -> anyhow::Result<()> {
     let mut buffer = [0; ROOM];
-    let text = read_input(&rt, &mut buffer)?;
+    let text = read_input(&mut rt.stdin(), &mut buffer)?;
     let mut planner = Planner::new();
     let mut answer = [0; 1024];
     let length = plan_book(&mut planner, text, &mut answer).map_err(|refusal| anyhow!(
