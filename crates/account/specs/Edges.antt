@@ -3,11 +3,15 @@ use Rattle.std.specs.Prelude.{◌≡◌, ℕ, List, [], ◌∷◌, replicate, So
 use Rattle.measure.specs.Supplied.{cents}
 use Rattle.measure.specs.declared.cents.Cents.{Cents}
 use Rattle.measure.specs.declared.price.Price.{Price}
-use Rattle.rules.specs.Compose.{compose_refusal, free, new_rule}
+use Rattle.rules.specs.Compose.{compose_refusal, composed, free, new_rule}
+use Rattle.rules.specs.Conditions.{condition}
 use Rattle.rules.specs.Judging.{open_refusal, judge_refusal}
+use Rattle.rules.specs.Refusals.{layer_of, number_of}
 use Rattle.rules.specs.declared.literal.Literal.{Literal}
+use Rattle.rules.specs.declared.refusal.Layer.{Layer}
+use Rattle.rules.specs.declared.refusal.Layer.TheVariants.{Text, Rule, Planner}
 use Rattle.rules.specs.declared.refusal.Refusal.{Refusal}
-use Rattle.rules.specs.declared.refusal.Refusal.TheVariants.{TooManyDecisions, SizeOutOfRange, PairCount, UnknownDecision, UnknownValue, NotAscending, CentsTooLarge, TableFull, NoSuchRule, BudgetTooLarge, ShortPlan}
+use Rattle.rules.specs.declared.refusal.Refusal.TheVariants.{TooManyDecisions, SizeOutOfRange, PairCount, UnknownDecision, UnknownValue, NotAscending, CentsTooLarge, TableFull, NoSuchRule, BudgetTooLarge, ShortPlan, UnknownLine, MalformedField, FieldCount, DecisionAfterRule, BookTooLarge, ShortText}
 use Rattle.rules.specs.declared.row.Kind.TheVariants.{Forbid, Activate, Price as Priced}
 use Rattle.account.specs.Accounts.{Account, fresh}
 use Rattle.account.specs.Calls.{Call, withdraw, rank, run, best, exclusion, unexcluded, history, refusal}
@@ -94,6 +98,38 @@ pub record AskingsShown : Type 0 where
   pub judged_open : judge_refusal (on 17 ∷ []) (new_rule ∷ []) [] ≡ Some SizeOutOfRange
   pub judged_row : judge_refusal [] (new_rule ∷ []) [] ≡ Some UnknownDecision
   pub judged_short : judge_refusal (on 1 ∷ []) (new_rule ∷ []) [] ≡ Some ShortPlan
+  pub judged_long : judge_refusal (on 1 ∷ []) (new_rule ∷ []) (1 ∷ 9 ∷ []) ≡ None
+  -- only an activate rule's target is looked at; of several rows the first that is refused tells why
+  pub judged_target : judge_refusal (on 1 ∷ []) (record new_rule { target = 9 } ∷ []) (0 ∷ []) ≡ None
+  pub judged_first : judge_refusal (on 1 ∷ []) (composed Forbid (pair 0 2 ∷ []) 0 free ∷ composed Forbid (pair 1 1 ∷ []) 0 free ∷ []) [] ≡ Some UnknownValue
+
+-- the rule that a new place holds
+pub record NewRuleShown : Type 0 where
+  pub kind : new_rule.kind ≡ Forbid
+  pub condition_is : condition new_rule ≡ pair 0 1 ∷ []
+
+-- each refusal's number and layer
+abbrev pub numbered : Refusal → ℕ → Layer → Type 0
+numbered r n l = (number_of r ≡ n) × (layer_of n ≡ l)
+
+pub record NumbersShown : Type 0 where
+  pub too_many_decisions : numbered TooManyDecisions 1 Planner
+  pub size_out_of_range : numbered SizeOutOfRange 2 Planner
+  pub pair_count : numbered PairCount 3 Rule
+  pub unknown_decision : numbered UnknownDecision 4 Planner
+  pub unknown_value : numbered UnknownValue 5 Planner
+  pub not_ascending : numbered NotAscending 6 Rule
+  pub cents_too_large : numbered CentsTooLarge 7 Rule
+  pub table_full : numbered TableFull 8 Planner
+  pub no_such_rule : numbered NoSuchRule 9 Planner
+  pub budget_too_large : numbered BudgetTooLarge 10 Planner
+  pub short_plan : numbered ShortPlan 11 Planner
+  pub unknown_line : numbered UnknownLine 12 Text
+  pub malformed_field : numbered MalformedField 13 Text
+  pub field_count : numbered FieldCount 14 Text
+  pub decision_after_rule : numbered DecisionAfterRule 15 Text
+  pub book_too_large : numbered BookTooLarge 16 Text
+  pub short_text : numbered ShortText 17 Text
 
 -- all of them
 pub record EdgesShown : Type 0 where
@@ -101,3 +137,5 @@ pub record EdgesShown : Type 0 where
   pub composings : ComposingsShown
   pub changings : ChangingsShown
   pub askings : AskingsShown
+  pub new_rule : NewRuleShown
+  pub numbers : NumbersShown

@@ -1,4 +1,4 @@
--- Small books, each with all that an account holds after some calls, written out: which rule of the search each shows stands above it. All follow by computing from the definitions.
+-- Small books, each with the trail, the exclusions, the best and the state that an account has after some calls, written out: which rule each shows stands above it. All follow by computing from the definitions.
 use Rattle.std.specs.Prelude.{◌≡◌, ℕ, Bool, true, false, List, [], ◌∷◌, ◌++◌, map, length, filter, Some, None, Option, refl}
 use Rattle.std.specs.List.{flat_map, range_with_len}
 use Rattle.std.specs.Option.{option_map}
@@ -9,8 +9,8 @@ use Rattle.rules.specs.declared.decision.Decision.{Decision}
 use Rattle.rules.specs.declared.literal.Literal.{Literal}
 use Rattle.rules.specs.declared.row.Kind.TheVariants.{Forbid, Activate, Price as Priced}
 use Rattle.account.specs.Accounts.{Account, Exclusion, fresh}
-use Rattle.account.specs.Calls.{Call, withdraw, rank, run, history}
-use Rattle.account.specs.Worked.{activate, charge, charge_both, forbid, forbid_both, off, on, pair}
+use Rattle.account.specs.Calls.{Answer, Call, withdraw, rank, run, best, unexcluded, refused, done, ran, reported, excluded, counted, answer, history, steps_since}
+use Rattle.account.specs.Worked.{activate, charge, charge_both, decisions, excludes, forbid, forbid_both, off, on, pair, rules}
 use Rattle.account.specs.declared.state.State.{State}
 use Rattle.account.specs.declared.state.State.TheVariants.{Open, Settled}
 
@@ -72,12 +72,15 @@ abbrev pub resting : ℕ → ℕ → List ℕ → Barred
 resting d v s = record { choice = pair d v; reason = s; rests = true }
 
 abbrev pub showing : List Chosen → List Barred → Option (List ℕ × ℕ) → State → Snapshot
-showing trail exclusions best state = record { trail = trail; exclusions = exclusions; best = best; state = state }
+showing trail exclusions held state = record { trail = trail; exclusions = exclusions; best = held; state = state }
 
 -- steps
 pub record StepsShown : Type 0 where
   -- the lowest rank is picked, then the lowest number; ranks are 0 at first, and a change of rules leaves them
   pub ranks : holds (on 1 ∷ on 1 ∷ on 1 ∷ []) (rank 0 1 ∷ rank 2 0 ∷ activate (pair 1 1) 0 refl ∷ run 2 ∷ []) ≡ showing (by 2 1 [] ∷ by 1 1 [] ∷ []) [] None Open
+  -- any rank counts by its number, and from when it is set
+  pub rank_numbers : holds (on 1 ∷ on 1 ∷ on 1 ∷ []) (rank 0 9 ∷ rank 1 255 ∷ rank 2 8 ∷ run 2 ∷ []) ≡ showing (by 0 1 [] ∷ by 2 1 [] ∷ []) [] None Open
+  pub rank_between : holds (on 1 ∷ on 1 ∷ on 1 ∷ []) (run 1 ∷ rank 1 1 ∷ run 1 ∷ []) ≡ showing (by 2 1 [] ∷ by 0 1 [] ∷ []) [] None Open
   -- the support is that of the first met activate rule with this target, and nobody for a decision that is marked on
   pub supports : holds (on 2 ∷ on 1 ∷ off 1 ∷ []) (activate (pair 0 2) 2 refl ∷ activate (pair 0 1) 1 refl ∷ activate (pair 1 1) 2 refl ∷ activate (pair 0 1) 2 refl ∷ run 3 ∷ []) ≡ showing (by 2 1 (1 ∷ []) ∷ by 1 1 [] ∷ by 0 1 [] ∷ []) [] None Open
   -- the first forbidding rule in place order excludes, by its other decisions
@@ -91,6 +94,8 @@ pub record StepsShown : Type 0 where
   pub tested_once : holds (on 2 ∷ on 1 ∷ []) (forbid_both (pair 0 1) (pair 1 1) refl ∷ charge (pair 0 2) 0 3 refl ∷ run 6 ∷ []) ≡ showing (by 1 1 [] ∷ []) (barring 0 1 [] ∷ resting 0 2 [] ∷ []) (Some (2 ∷ 1 ∷ [], 3)) Settled
   -- the kept price rules give the reason: one is dropped if those kept before it and those after it still reach the best's cost
   pub kept_rules : holds (on 1 ∷ on 2 ∷ on 1 ∷ on 2 ∷ []) (charge (pair 1 2) 0 5 refl ∷ charge (pair 3 2) 0 5 refl ∷ charge (pair 1 1) 0 2 refl ∷ charge (pair 3 1) 0 5 refl ∷ charge_both (pair 0 1) (pair 3 2) refl 1 refl ∷ charge (pair 2 1) 0 4 refl ∷ run 10 ∷ []) ≡ showing (by 1 2 [] ∷ by 0 1 [] ∷ []) (resting 1 1 [] ∷ resting 2 1 (1 ∷ []) ∷ []) (Some (1 ∷ 1 ∷ 1 ∷ 1 ∷ [], 11)) Open
+  -- a refused call leaves all as it was
+  pub refused_stays : holds (on 1 ∷ on 1 ∷ []) (rank 0 1 ∷ rank 2 0 ∷ run 1000001 ∷ withdraw Forbid 0 ∷ run 1 ∷ []) ≡ showing (by 1 1 [] ∷ []) [] None Open
   -- what is settled keeps its trail
   pub settled : holds (on 1 ∷ []) (run 2 ∷ []) ≡ showing (by 0 1 [] ∷ []) [] (Some (1 ∷ [], 0)) Settled
 
@@ -118,6 +123,7 @@ pub record ChangesHeld : Type 0 where
   pub price_met : then_holds (charge (pair 1 1) 0 3 refl ∷ []) ≡ showing [] (barring 0 3 [] ∷ []) (Some (1 ∷ 1 ∷ 0 ∷ [], 8)) Open
   -- an activate rule more: no exclusion stays, and the best if it is still lawful
   pub activate_lawful : then_holds (activate (pair 1 2) 2 refl ∷ []) ≡ showing [] [] (Some (1 ∷ 1 ∷ 0 ∷ [], 5)) Open
+  pub activate_met : then_holds (activate (pair 1 1) 0 refl ∷ []) ≡ showing [] [] (Some (1 ∷ 1 ∷ 0 ∷ [], 5)) Open
   pub activate_unlawful : then_holds (activate (pair 1 1) 2 refl ∷ []) ≡ showing [] [] None Open
   -- a forbid rule less: no exclusion stays, the best does; the rule at the place is gone
   pub forbid_less : then_holds (withdraw Forbid 1 ∷ []) ≡ showing [] [] (Some (1 ∷ 1 ∷ 0 ∷ [], 5)) Open
@@ -128,10 +134,34 @@ pub record ChangesHeld : Type 0 where
   pub activate_less : then_holds (withdraw Activate 0 ∷ []) ≡ showing [] [] (Some (1 ∷ 1 ∷ 0 ∷ [], 5)) Open
   pub activate_gone : then_holds (withdraw Activate 1 ∷ run 3 ∷ []) ≡ showing (by 2 1 (0 ∷ []) ∷ by 1 2 [] ∷ by 0 2 [] ∷ []) (resting 0 1 [] ∷ barring 0 3 [] ∷ barring 1 1 (0 ∷ []) ∷ []) (Some (1 ∷ 1 ∷ 0 ∷ [], 5)) Open
   pub activate_needed : holds (on 1 ∷ off 1 ∷ []) (activate (pair 0 1) 1 refl ∷ run 3 ∷ withdraw Activate 0 ∷ []) ≡ showing [] [] None Open
+  pub activate_twice : holds (on 1 ∷ off 1 ∷ []) (activate (pair 0 1) 1 refl ∷ activate (pair 0 1) 1 refl ∷ run 3 ∷ withdraw Activate 0 ∷ []) ≡ showing [] [] (Some (1 ∷ 1 ∷ [], 0)) Open
   -- an exclusion goes whichever decision its reason names
   pub reasons_go : holds (on 2 ∷ on 2 ∷ []) (forbid_both (pair 0 1) (pair 1 1) refl ∷ run 2 ∷ charge (pair 1 2) 0 3 refl ∷ []) ≡ showing [] [] None Open
+
+-- the answer of an exclusion as a snapshot has it: the decisions of the reason, and the mark
+abbrev pub answered : Answer Cents → Option (List ℕ × Bool)
+answered (excluded (Some e)) = Some (members 64 e.reason, e.rests)
+answered (excluded None) = None
+answered (refused e) = None
+answered done = None
+answered (ran k s) = None
+answered (reported s c b) = None
+answered (counted k) = None
+
+-- what is asked after the four steps, and the steps counted since the latest change of rules
+pub record AnswersShown : Type 0 where
+  pub reason : answered (excludes cents some_decisions some_calls 0 2) ≡ Some (1 ∷ [], false)
+  pub resting_reason : answered (excludes cents some_decisions some_calls 0 1) ≡ Some ([], true)
+  pub no_reason : excludes cents some_decisions some_calls 0 4 ≡ excluded None
+  pub free_values : answer cents (history cents (fresh some_decisions) some_calls) (unexcluded 0) ≡ counted 1
+  pub all_free : answer cents (history cents (fresh some_decisions) some_calls) (unexcluded 1) ≡ counted 2
+  -- refused calls and calls that change no rule count on; an accepted add or withdraw starts anew
+  pub counted_on : steps_since cents 0 (fresh decisions) (rules ++ run 4 ∷ rank 2 0 ∷ withdraw Priced 8 ∷ run 100 ∷ best (9 ∷ 9 ∷ 9 ∷ []) ∷ run 5 ∷ []) ≡ 15
+  pub counted_anew : steps_since cents 0 (fresh decisions) (rules ++ run 15 ∷ forbid (pair 0 1) ∷ run 3 ∷ []) ≡ 1
+  pub counted_from : steps_since cents 0 (fresh decisions) (rules ++ run 15 ∷ withdraw Priced 1 ∷ []) ≡ 0
 
 -- all of them
 pub record SnapshotsShown : Type 0 where
   pub steps : StepsShown
   pub changes : ChangesHeld
+  pub answers : AnswersShown
