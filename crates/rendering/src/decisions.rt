@@ -5,6 +5,7 @@ ghost use Rattle.rendering.specs.Texts.{decision_line, mark_text};
 use crate::Text;
 use crate::field::{LINE_END, put_field};
 use rules::Decision;
+use statements::LineKind;
 use writing::Sink;
 
 impl Text for bool {
@@ -23,7 +24,7 @@ impl Text for Decision {
     /// The decision's line.
     #[tactic(auto, unfolding(crate::specs::Texts::decision_line))]
     fn put<S: Sink>(&self, sink: &mut S) {
-        sink.byte(b'D');
+        sink.byte(LineKind::Decision.letter());
         put_field(sink, &u64::from(self.size));
         put_field(sink, &self.on);
         sink.byte(LINE_END);

@@ -7,6 +7,7 @@ use crate::Text;
 use crate::field::{LINE_END, put_field};
 use crate::text::put_all;
 use rules::{Kind, Literal, Row};
+use statements::LineKind;
 use writing::Sink;
 
 impl Text for Kind {
@@ -14,11 +15,12 @@ impl Text for Kind {
 
     /// The first byte of a rule's line.
     fn put<S: Sink>(&self, sink: &mut S) {
-        sink.byte(match *self {
-            Kind::Forbid => b'F',
-            Kind::Activate => b'A',
-            Kind::Price => b'P',
-        });
+        let kind = match *self {
+            Kind::Forbid => LineKind::Forbid,
+            Kind::Activate => LineKind::Activate,
+            Kind::Price => LineKind::Price,
+        };
+        sink.byte(kind.letter());
     }
 }
 

@@ -19,7 +19,14 @@ numbered n (p ∷ ps) = cond (is_nil p && is_nil ps) [] (record { bytes = p; num
 abbrev pub lines_of : List ℕ → List TextLine
 lines_of text = numbered 1 (pieces 10 text)
 
--- the kind that a byte stands for: D, F, A or P
+-- the byte that a line of a kind begins with: D, F, A or P
+abbrev pub letter_of : LineKind → ℕ
+letter_of Decision = 68
+letter_of Forbid = 70
+letter_of Activate = 65
+letter_of Price = 80
+
+-- the kind that a byte stands for
 abbrev pub kind_by : ℕ → Option LineKind
 kind_by b = cond (b == 68) (Some Decision) (cond (b == 70) (Some Forbid) (cond (b == 65) (Some Activate) (cond (b == 80) (Some Price) None)))
 

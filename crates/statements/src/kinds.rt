@@ -1,10 +1,10 @@
 //! The kind of a line.
-ghost use Rattle.std.specs.Prelude.{◌≡◌, not, ◌&&◌, ◌||◌};
+ghost use Rattle.std.specs.Prelude.{◌≡◌, Some, not, ◌&&◌, ◌||◌};
 ghost use Rattle.std.specs.Option.{ok_or};
 ghost use Rattle.reading.specs.Pieces.{is_nil};
 ghost use Rattle.rules.specs.declared.refusal.Refusal.TheVariants.{UnknownLine};
 ghost use Rattle.statements.specs.Fields.{heads, takes_field};
-ghost use Rattle.statements.specs.Lines.{is_decision, kind_by};
+ghost use Rattle.statements.specs.Lines.{is_decision, kind_by, letter_of};
 
 use crate::LineKind;
 use rules::Refusal;
@@ -28,6 +28,14 @@ impl TryFrom<char> for LineKind {
 }
 
 impl LineKind {
+    /// The byte that a line of this kind begins with.
+    pub fn letter(self) -> u8
+        ensures letter { result ≡ letter_of self }
+        ensures read { kind_by result ≡ Some self }
+    {
+        self as u8
+    }
+
     /// Whether a line of this kind states a decision.
     pub fn is_decision(self) -> bool
         ensures { result ≡ is_decision self }

@@ -9,7 +9,7 @@ pub struct Line<'a> {
     pub ended: bool,
 }
 
-/// The kinds of line. Each presents the byte that such a line begins with, since that form is asked for.
+/// The kinds of line, each with the byte that such a line begins with.
 #[derive(Clone, Copy, Debug, PartialEq, Eq)]
 pub enum LineKind {
     Decision = 68,
