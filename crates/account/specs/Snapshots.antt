@@ -95,9 +95,9 @@ pub record StepsShown : Type 0 where
   -- the kept price rules give the reason: one is dropped if those kept before it and those after it still reach the best's cost
   pub kept_rules : holds (on 1 ∷ on 2 ∷ on 1 ∷ on 2 ∷ []) (charge (pair 1 2) 0 5 refl ∷ charge (pair 3 2) 0 5 refl ∷ charge (pair 1 1) 0 2 refl ∷ charge (pair 3 1) 0 5 refl ∷ charge_both (pair 0 1) (pair 3 2) refl 1 refl ∷ charge (pair 2 1) 0 4 refl ∷ run 10 ∷ []) ≡ showing (by 1 2 [] ∷ by 0 1 [] ∷ []) (resting 1 1 [] ∷ resting 2 1 (1 ∷ []) ∷ []) (Some (1 ∷ 1 ∷ 1 ∷ 1 ∷ [], 11)) Open
   -- a refused call leaves all as it was
-  pub refused_stays : holds (on 1 ∷ on 1 ∷ []) (rank 0 1 ∷ rank 2 0 ∷ run 1000001 ∷ withdraw Forbid 0 ∷ run 1 ∷ []) ≡ showing (by 1 1 [] ∷ []) [] None Open
-  -- what is settled keeps its trail
-  pub settled : holds (on 1 ∷ []) (run 2 ∷ []) ≡ showing (by 0 1 [] ∷ []) [] (Some (1 ∷ [], 0)) Settled
+  pub refused_stays : holds (on 1 ∷ on 1 ∷ on 1 ∷ []) (rank 0 1 ∷ run 1 ∷ rank 3 0 ∷ run 1000001 ∷ withdraw Forbid 0 ∷ run 1 ∷ []) ≡ showing (by 2 1 [] ∷ by 1 1 [] ∷ []) [] None Open
+  -- what is settled keeps its trail, and stays settled whatever is ranked
+  pub settled : holds (on 1 ∷ []) (run 2 ∷ rank 0 7 ∷ []) ≡ showing (by 0 1 [] ∷ []) [] (Some (1 ∷ [], 0)) Settled
 
 -- a book to change, after four steps: with exclusions of each sort, a trail and a best
 abbrev pub some_decisions : List Decision
