@@ -1,5 +1,4 @@
 pub mod Called
-pub mod Opened
 pub mod Picks
 pub mod Reopened
 pub mod Shaped
