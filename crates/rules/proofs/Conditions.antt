@@ -1,7 +1,7 @@
 -- What a met condition tells: its two laws, which are all that proofs about plans use of it.
 use Rattle.std.proofs.lemmas.Grind.{common_steps}
-use Rattle.std.proofs.Common.{◌≡◌, ℕ, ◌<◌, true, eqb, ltb, List, [], ◌∷◌, refl, ⊎_elim, arith}
-use Rattle.std.proofs.lemmas.Bool.{and_parts, and_from, or_cases, or_right, eqb-true, eq-eqb, lt-ltb, false≢true}
+use Rattle.std.proofs.Common.{◌≡◌, ℕ, ◌<◌, true, eqb, List, [], ◌∷◌, refl, ⊎_elim, arith}
+use Rattle.std.proofs.lemmas.Bool.{and_parts, or_cases, or_right, eqb-true, false≢true}
 use Rattle.rules.specs.Conditions.{Plan, has, meets, names}
 use Rattle.rules.specs.declared.literal.Literal.{Literal}
 

@@ -1,12 +1,11 @@
 -- The active decisions, as rounds over a set of the first 64 find them.
 use Rattle.std.proofs.lemmas.Grind.{common_steps}
-use Rattle.std.proofs.Common.{◌≡◌, ℕ, zero, suc, ◌+◌, ◌-◌, ◌<◌, ◌≤◌, Bool, true, false, ◌&&◌, ◌||◌, eqb, ltb, leb, List, [], ◌∷◌, length, get_or, drop, filter, sym, refl, ap, ◌∙◌, ap₂, zero-le, arith}
+use Rattle.std.proofs.Common.{◌≡◌, ℕ, zero, suc, ◌+◌, ◌-◌, ◌<◌, ◌≤◌, Bool, false, ◌&&◌, ◌||◌, leb, List, [], ◌∷◌, length, filter, sym, refl, ap, ◌∙◌, ap₂, zero-le, arith}
 use mathlib.Core.Path.{fun_ext}
-use mathlib.Core.Bool.{and-false}
 use Rattle.std.specs.List.{range_with_len, zip}
 use Rattle.std.proofs.lemmas.Bool.{and_right, le-leb}
 use Rattle.rules.proofs.Folds.{gathered}
-use Rattle.rules.specs.Conditions.{Plan, met}
+use Rattle.rules.specs.Conditions.{Plan}
 use Rattle.rules.specs.Plans.{Set, enables, grown, on_at, within}
 use Rattle.rules.specs.declared.decision.Decision.{Decision}
 use Rattle.rules.specs.declared.row.Row.{Row}
@@ -36,22 +35,3 @@ module _ (p : Plan) (idle : (d : ℕ) → 64 ≤ d → p d ≡ 0) (s t : Set) (s
       → (d : ℕ) → d < 64 → next d ≡ grown rs p t d
   same_grown rs q new next chosen enabled joined d h =
       ap (λ (f : Set). f d) joined ∙ ap₂ (λ (x y : Bool). x || y) (same d h) (enabled d h ∙ ap (λ (f : Plan). enables rs f d) (chosen ∙ same_within))
-
-module _ (k : Row → Bool) (p : Plan) (rs : List Row) (i : ℕ) (r : Row) (l : i < length rs) (d : ℕ) where
-  abbrev pub row : Row
-  row = get_or rs i r
-
-  abbrev pub later : Bool
-  later = enables (filter k (drop (i + 1) rs)) p d
-
-  -- the rows that count, one more of them or not
-  next_enables : (b : Bool) → (k row && met p row) ≡ b → enables (filter k (drop i rs)) p d ≡ ((eqb d row.target && b) || later)
-  next_enables b h = grind (arith, common_steps)
-
-  -- one that counts and is met is gathered
-  pub enables_more : (s : Bool) → d < 64 → (k row && met p row) ≡ true → ((s || (eqb d row.target && ltb row.target 64)) || later) ≡ (s || enables (filter k (drop i rs)) p d)
-  enables_more s low h = grind (arith, common_steps)
-
-  -- another gives nothing
-  pub enables_skip : (k row && met p row) ≡ false → later ≡ enables (filter k (drop i rs)) p d
-  enables_skip h = sym (next_enables false h ∙ ap (λ (b : Bool). b || later) (and-false (eqb d row.target)))
