@@ -1,6 +1,6 @@
 -- At most (V + 2) ^ (N + 1) steps between two changes of rules, for N decisions of V values in all.
 use Rattle.std.proofs.lemmas.Grind.{common_steps}
-use Rattle.std.proofs.Common.{◌≡◌, ℕ, zero, suc, ◌+◌, ◌^◌, ◌<◌, ◌≤◌, Bool, true, false, ◌&&◌, List, [], ◌∷◌, length, Some, None, sum_by, Option, refl, ap, add_assoc, arith}
+use Rattle.std.proofs.Common.{◌≡◌, ℕ, zero, suc, ◌+◌, ◌^◌, ◌<◌, ◌≤◌, Bool, true, false, ◌&&◌, List, [], ◌∷◌, length, Some, None, sum_by, Option, refl, add_assoc, arith}
 use Rattle.std.proofs.lemmas.Bool.{cond_both}
 use Rattle.measure.specs.Meaning.{Meaning}
 use Rattle.measure.proofs.Laws.{Laws}
@@ -56,11 +56,7 @@ module _ {C : Type 0} (a : Account C) (f : Formed a) where
 
   -- a blame settles or raises the number
   pub blame_rises : (s : Set) (rests : Bool) → Within a.trail s → (blame a s rests).state ≡ Open → height_of a < height_of (blame a s rests)
-  blame_rises s rests within = go (retreat s a.trail) refl
-    where
-      go : (o : Option Retreat) → retreat s a.trail ≡ o → (blamed a s rests o).state ≡ Open → height_of a < height_of (blamed a s rests o)
-      go None is e = let z : ◌≡◌ {A = ℕ} 0 1 = ap one_if_open e in absurd (omega arith)
-      go (Some r) is e = retreating_rises s rests r within is
+  blame_rises s rests within = grind (arith, common_steps, retreating_rises)
 
 module _ {C : Type 0} (m : Meaning C) (laws : Laws m) where
   -- testing keeps every exclusion
@@ -109,10 +105,7 @@ module _ {C : Type 0} (m : Meaning C) (laws : Laws m) where
   -- one more step
   in_counted : (n : ℕ) (a : Account C) → Formed a → Counted n a → (s : State) → a.state ≡ s → Formed (advance_in m a s) × Counted (n + one_if_open s) (advance_in m a s)
   in_counted n a f c Settled is = (f, none_more n 0 a refl c)
-  in_counted n a f c Open is =
-      let top = height_bounded a f in
-      let low = c.0 is in
-      (step_formed m laws a f, (λ (still : (step m a).state ≡ Open). omega (arith, step_rises a f still), rw (step_book m a) (omega arith)))
+  in_counted n a f c Open is = grind (arith, common_steps, height_bounded, step_formed, step_rises, step_book)
 
   run_counted : (n : ℕ) (a : Account C) → Formed a → Counted n a → (k : ℕ) → Formed (advance m k a) × Counted (n + made m k a) (advance m k a)
   run_counted n a f c zero = (f, none_more n 0 a refl c)
@@ -137,9 +130,7 @@ module _ {C : Type 0} (m : Meaning C) (laws : Laws m) where
 
   since_counted : (n : ℕ) (a : Account C) → Sound m a → Counted n a → (cs : List Call) → steps_since m n a cs ≤ bound a.book.decisions
   since_counted n a s k [] = k.1
-  since_counted n a s k (c ∷ cs) =
-      rw (after_decisions m a c) at
-      (since_counted (tally n c (answer m a c)) (after m a c) (after_sound m laws a c s) (after_counted n a s.formed k c (refusal a c)) cs)
+  since_counted n a s k (c ∷ cs) = grind (arith, common_steps, since_counted (tally n c (answer m a c)) (after m a c) (after_sound m laws a c s) (after_counted n a s.formed k c (refusal a c)) cs, after_decisions, after_sound, after_counted)
 
   -- the steps made since the latest change of rules
   pub steps_bounded : (ds : List Decision) (cs : List Call) → steps_since m 0 (fresh ds) cs ≤ (sum_by (λ (d : Decision). d.size) ds + 2) ^ (length ds + 1)

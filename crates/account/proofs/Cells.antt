@@ -1,6 +1,6 @@
 -- Counting: the numbers below a limit that pass a test, and the cells, a decision with one of its values, that do.
+use Rattle.std.proofs.lemmas.Grind.{common_steps}
 use Rattle.std.proofs.Common.{◌≡◌, ℕ, zero, suc, ◌+◌, ◌<◌, ◌≤◌, Bool, true, false, List, [], ◌∷◌, sum_by, sym, refl, ap, ◌∙◌, ⊎_elim, arith}
-use Rattle.std.proofs.lemmas.List.Sums.{sum_by-cons}
 use Rattle.std.proofs.lemmas.Bool.{cases_eq, false≢true}
 use Rattle.rules.specs.Plans.{size_at}
 use Rattle.rules.specs.declared.decision.Decision.{Decision}
@@ -51,9 +51,7 @@ module _ (t u : ℕ → Bool) (more : (x : ℕ) → t x ≡ true → u x ≡ tru
 
 pub cells_le : (t : ℕ → ℕ → Bool) (ds : List Decision) → cells t ds ≤ sum_by (λ (d : Decision). d.size) ds
 cells_le t [] = omega arith
-cells_le t (d ∷ ds) =
-    rw (sum_by-cons (λ (d : Decision). d.size) d ds)
-    (omega (arith, below_le (λ i. t 0 (suc i)) d.size, cells_le (λ x. t (suc x)) ds))
+cells_le t (d ∷ ds) = grind (arith, common_steps, cells_le (λ x. t (suc x)) ds, below_le)
 
 pub cells_less : (t u : ℕ → ℕ → Bool) → ((x v : ℕ) → t x v ≡ true → u x v ≡ true) → (ds : List Decision) → cells t ds ≤ cells u ds
 cells_less t u more [] = omega arith

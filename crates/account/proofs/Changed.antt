@@ -1,6 +1,6 @@
 -- An accepted change of rules keeps an account sound.
 use Rattle.std.proofs.lemmas.Grind.{common_steps}
-use Rattle.std.proofs.Common.{◌≡◌, ℕ, zero, suc, ◌<◌, ◌≤◌, Bool, true, false, cond, not, ◌&&◌, List, [], ◌∷◌, ◌++◌, length, take, drop, Some, None, Option, sym, refl, ap, ◌∙◌, ⊎_elim, arith}
+use Rattle.std.proofs.Common.{◌≡◌, ℕ, zero, suc, ◌<◌, ◌≤◌, Bool, true, false, not, ◌&&◌, List, [], ◌∷◌, ◌++◌, length, take, drop, Some, None, Option, sym, refl, ap, ◌∙◌, ⊎_elim, arith}
 use Rattle.std.specs.List.{remove, AllByRecursion}
 use Rattle.std.proofs.ByRecursion.{All-weaker, All-append, All-take, All-drop}
 use Rattle.std.proofs.lemmas.Bool.{and_parts, cases_eq, both_ways, not-true}
@@ -31,11 +31,7 @@ empty_below_lem s (suc n) x h l t =
 
 keep_if_some : (test : Exclusion → Bool) (o : Option Exclusion) (e : Exclusion) → keep_if test o ≡ Some e → (o ≡ Some e) × (test e ≡ true)
 keep_if_some test None e h = absurd (none_some e h)
-keep_if_some test (Some f) e h = go (test f) refl h
-  where
-    go : (t : Bool) → test f ≡ t → cond t (Some f) None ≡ Some e → (Some f ≡ Some e) × (test e ≡ true)
-    go true q g = (g, ap test (sym (some_same f e g)) ∙ q)
-    go false q g = absurd (none_some e g)
+keep_if_some test (Some f) e h = grind (arith, common_steps)
 
 pub open_settled : Open ≡ Settled → ⊥
 open_settled h = let z : ◌≡◌ {A = ℕ} 0 1 = cc in omega arith
@@ -104,11 +100,7 @@ module _ {C : Type 0} (m : Meaning C) (a : Account C) (s : Sound m a) (fs ts ps 
 module _ {C : Type 0} where
   unless_met_some : (r : Row) (o : Option (Best C)) (b : Best C) → unless_met r o ≡ Some b → (o ≡ Some b) × (met b.plan r ≡ false)
   unless_met_some r None b h = absurd (none_some b h)
-  unless_met_some r (Some c) b h = go (met c.plan r) refl h
-    where
-      go : (t : Bool) → met c.plan r ≡ t → cond t None (Some c) ≡ Some b → (Some c ≡ Some b) × (met b.plan r ≡ false)
-      go true q g = absurd (none_some b g)
-      go false q g = (g, ap (λ (x : Best C). met x.plan r) (sym (some_same c b g)) ∙ q)
+  unless_met_some r (Some c) b h = grind (arith, common_steps)
 
   unless_met_same : (r : Row) (o : Option (Best C)) → best_meets o r ≡ false → unless_met r o ≡ o
   unless_met_same r None h = refl
@@ -116,11 +108,7 @@ module _ {C : Type 0} where
 
   if_lawful_some : (b : Book) (o : Option (Best C)) (best : Best C) → if_lawful b o ≡ Some best → (o ≡ Some best) × (is_lawful b best.plan ≡ true)
   if_lawful_some b None best h = absurd (none_some best h)
-  if_lawful_some b (Some c) best h = go (is_lawful b c.plan) refl h
-    where
-      go : (t : Bool) → is_lawful b c.plan ≡ t → cond t (Some c) None ≡ Some best → (Some c ≡ Some best) × (is_lawful b best.plan ≡ true)
-      go true q g = (g, ap (λ (x : Best C). is_lawful b x.plan) (sym (some_same c best g)) ∙ q)
-      go false q g = absurd (none_some best g)
+  if_lawful_some b (Some c) best h = grind (arith, common_steps)
 
   repriced_some : (m : Meaning C) (ps : List Row) (o : Option (Best C)) (b : Best C) → repriced m ps o ≡ Some b → (c : Best C) × (o ≡ Some c) × (b ≡ record { plan = c.plan; cost = cost m ps c.plan })
   repriced_some m ps None b h = absurd (none_some b h)

@@ -1,7 +1,8 @@
 -- What each part of a step finds, by its outcome.
-use Rattle.std.proofs.Common.{◌≡◌, ℕ, zero, suc, ◌<◌, ◌≤◌, Bool, true, false, cond, not, ◌&&◌, ◌||◌, eqb, ltb, ◌⊎◌, List, [], ◌∷◌, Some, None, Option, sym, refl, ⊎_elim, arith}
+use Rattle.std.proofs.lemmas.Grind.{common_steps}
+use Rattle.std.proofs.Common.{◌≡◌, ℕ, zero, suc, ◌<◌, ◌≤◌, Bool, true, false, cond, not, ◌&&◌, ◌||◌, eqb, ltb, ◌⊎◌, List, [], ◌∷◌, Some, None, Option, refl, ⊎_elim, arith}
 use Rattle.std.specs.List.{ContainsAt as Has, AllByRecursion}
-use Rattle.std.proofs.lemmas.Bool.{cond_both, cases_eq, and_parts, and_cases, or_cases, or_left, or_right, both_ways, eqb-true, eq-eqb, not-true, not-false, ltb-false, ltb-true}
+use Rattle.std.proofs.lemmas.Bool.{cond_both, cases_eq, and_parts, and_cases, or_cases, or_left, or_right, both_ways, eq-eqb, not-true, not-false, ltb-false, ltb-true}
 use Rattle.rules.specs.Conditions.{Plan, names, condition, met}
 use Rattle.rules.specs.Plans.{Book, Set, enables, on_at}
 use Rattle.rules.specs.Refusals.{when, or_else}
@@ -64,9 +65,7 @@ enabled [] p d h = absurd (both_ways false refl h)
 enabled (r ∷ rs) p d h = go (eqb d r.target && met p r) refl h (enabled rs p d)
   where
     go : (t : Bool) → (eqb d r.target && met p r) ≡ t → (t || enables rs p d) ≡ true → (enables rs p d ≡ true → Enabled rs p d (enabled_by rs p d)) → Enabled (r ∷ rs) p d (cond t (names (condition r)) (enabled_by rs p d))
-    go true e g rest =
-        let parts = and_parts (eqb d r.target) (met p r) e in
-        record { row = r; is_held = has_first r rs; targets = sym (eqb-true d r.target parts.0); is_met = parts.1; supports = refl }
+    go true e g rest = grind (arith, common_steps)
     go false e g rest =
         let k = rest g in
         record { row = k.row; is_held = has_later r rs k.row k.is_held; targets = k.targets; is_met = k.is_met; supports = k.supports }

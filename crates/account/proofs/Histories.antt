@@ -17,9 +17,7 @@ use Rattle.rules.proofs.Grounds.{or_else_none}
 use Rattle.account.specs.Accounts.{Account, chosen, fresh}
 use Rattle.account.specs.Calls.{Call, add, withdraw, rank, run, best, exclusion, unexcluded, refusal, leaves, after, history}
 use Rattle.account.specs.Changes.{added, withdrawn}
-use Rattle.account.specs.Steps.{extend, conclude, step, advance_in, advance}
-use Rattle.account.specs.declared.state.State.{State}
-use Rattle.account.specs.declared.state.State.TheVariants.{Open, Settled}
+use Rattle.account.specs.Steps.{extend, conclude, step, advance}
 use Rattle.account.proofs.Changed.{added_sound, withdrawn_sound}
 use Rattle.account.proofs.Sound.{Sound}
 use Rattle.account.proofs.Steady.{advance_sound}
@@ -48,11 +46,7 @@ module _ {C : Type 0} (m : Meaning C) where
 
   pub advance_book : (n : ℕ) (a : Account C) → (advance m n a).book ≡ a.book
   advance_book zero a = refl
-  advance_book (suc n) a = go (advance m n a).state ∙ advance_book n a
-    where
-      go : (t : State) → (advance_in m (advance m n a) t).book ≡ (advance m n a).book
-      go Open = step_book (advance m n a)
-      go Settled = refl
+  advance_book (suc n) a = grind (arith, common_steps, advance_book n a, step_book)
 
   added_decisions : (a : Account C) (k : Kind) (r : Row) → (added m a k r).book.decisions ≡ a.book.decisions
   unfolding added
@@ -91,17 +85,7 @@ module _ {C : Type 0} (m : Meaning C) where
     leaves_sound : (a : Account C) (c : Call) → Sound m a → refusal a c ≡ None → Sound m (leaves m a c)
     leaves_sound a (add r) s h = added_sound m laws a s r.row.kind r.row (rule_some r) (target_known a.book.decisions r.row (or_else_none _ _ h).0)
     leaves_sound a (withdraw k n) s h = withdrawn_sound m laws a s k n
-    leaves_sound a (rank d n) s h =
-        record {
-          formed = record { distinct = s.formed.distinct; in_range = s.formed.in_range; reasoned = s.formed.reasoned; free = s.formed.free };
-          known = s.known;
-          grounded = s.grounded;
-          unforbidden = s.unforbidden;
-          barred = λ x v e q p law has agrees. s.barred x v e q p law has agrees;
-          resting = s.resting;
-          best_good = s.best_good;
-          settled = s.settled;
-        }
+    leaves_sound a (rank d n) s h = grind (arith, common_steps)
     leaves_sound a (run n) s h = advance_sound m laws n a s
     leaves_sound a (best b) s h = s
     leaves_sound a (exclusion d v) s h = s

@@ -9,7 +9,7 @@ use Rattle.measure.proofs.Laws.{Laws}
 use Rattle.rules.specs.Conditions.{Plan, names, condition, met}
 use Rattle.rules.specs.Plans.{Book, cost}
 use Rattle.rules.specs.declared.row.Row.{Row}
-use Rattle.account.specs.Steps.{kept, reaches, named_in, price_reason}
+use Rattle.account.specs.Steps.{kept, named_in, price_reason}
 use Rattle.account.proofs.Meeting.{met_same, met_chosen}
 
 module _ {C : Type 0} (m : Meaning C) (laws : Laws m) where
@@ -42,11 +42,7 @@ module _ {C : Type 0} (m : Meaning C) (laws : Laws m) where
   kept_met : (best before : C) (rs : List Row) (p : Plan) → AllByRecursion (λ r. met p r ≡ true) (kept m best before rs p)
   unfolding kept
   kept_met best before [] p = tt
-  kept_met best before (r ∷ rs) p =
-      cond_both (met p r) (cond (reaches m best (m.joins before (cost m rs p))) (kept m best before rs p) (r ∷ kept m best (m.joins before (m.reads r.price)) rs p)) (kept m best before rs p) (AllByRecursion (λ r. met p r ≡ true))
-      (λ e. cond_both (reaches m best (m.joins before (cost m rs p))) (kept m best before rs p) (r ∷ kept m best (m.joins before (m.reads r.price)) rs p) (AllByRecursion (λ r. met p r ≡ true))
-      (λ f. kept_met best before rs p) (λ f. (e, kept_met best (m.joins before (m.reads r.price)) rs p)))
-      (λ e. kept_met best before rs p)
+  kept_met best before (r ∷ rs) p = grind (arith, common_steps, kept_met best before rs p, kept_met best (m.joins before (m.reads r.price)) rs p)
 
   named_same : (rs : List Row) (p q : Plan) → ((x : ℕ) → named_in rs x ≡ true → q x ≡ p x) → AllByRecursion (λ r. met p r ≡ true) rs → AllByRecursion (λ r. met q r ≡ true) rs
   named_same [] p q same all = tt

@@ -97,16 +97,12 @@ module _ (ds : List Decision) (s : Set) where
 
     followed : s e.decision ≡ false → (o : Option Retreat) → Outcome es o → Outcome (e ∷ es) (follow e o)
     followed t None p = tt
-    followed t (Some r) p =
-        cond_both (has_any e.support r.left) (record { culprit = r.culprit; left = e.decision ∷ r.left; stays = r.stays })
-        (record { culprit = r.culprit; left = r.left; stays = e ∷ r.stays }) (Parted (e ∷ es)) (λ _. leaves t r p) (λ _. remains t r p)
+    followed t (Some r) p = grind (arith, common_steps, leaves, remains)
 
   parts : (es : List Entry) → Distinct ds es → Outcome es (retreat s es)
   unfolding retreat
   parts [] h = tt
-  parts (e ∷ es) h =
-      cond_both (s e.decision) (Some (record { culprit = e; left = e.decision ∷ []; stays = es })) (follow e (retreat s es)) (Outcome (e ∷ es))
-      (at_first e es h) (λ t. followed e es h t (retreat s es) (parts es h.3))
+  parts (e ∷ es) h = grind (arith, common_steps, parts es h.3, at_first, followed)
 
   parted : (es : List Entry) → Distinct ds es → (r : Retreat) → retreat s es ≡ Some r → Parted es r
   parted es h r is = rw is at (parts es h)

@@ -4,7 +4,7 @@ use Rattle.std.proofs.lemmas.Grind.{common_steps}
 use Rattle.std.proofs.Common.{◌≡◌, ℕ, ◌+◌, ◌<◌, ◌≤◌, Bool, true, false, cond, ◌&&◌, eqb, List, [], ◌∷◌, length, Some, None, count_by, Option, sym, refl, ap, ◌∙◌, subst, ⊎_elim, arith}
 use Rattle.std.specs.List.{AllByRecursion}
 use Rattle.std.proofs.lemmas.List.Sums.{sum_by-cons}
-use Rattle.std.proofs.lemmas.Bool.{cases_Bool, false≢true, cond-true, cond-false, eqb-true, eq-eqb, and_parts, and_from}
+use Rattle.std.proofs.lemmas.Bool.{cases_Bool, false≢true, cond-true, cond-false, eqb-true, and_parts, and_from}
 use Rattle.measure.specs.Meaning.{Meaning}
 use Rattle.measure.specs.declared.price.Price.{Price}
 use Rattle.measure.proofs.Laws.{Laws}
@@ -28,10 +28,7 @@ record Alike (r s : Row) : Type 0 where
 
 pairs_reflexive : (ls : List Literal) → same_pairs ls ls ≡ true
 pairs_reflexive [] = refl
-pairs_reflexive (l ∷ ls) =
-    and_from (eqb l.decision l.decision && eqb l.value l.value) (same_pairs ls ls)
-    (and_from (eqb l.decision l.decision) (eqb l.value l.value) (eq-eqb l.decision l.decision refl) (eq-eqb l.value l.value refl))
-    (pairs_reflexive ls)
+pairs_reflexive (l ∷ ls) = grind (arith, common_steps, pairs_reflexive ls)
 
 pairs_equal : (ls ks : List Literal) → same_pairs ls ks ≡ true → ls ≡ ks
 pairs_equal [] [] h = refl

@@ -6,7 +6,7 @@ use Rattle.std.proofs.lemmas.Bool.{or_cases}
 use Rattle.measure.specs.Meaning.{Meaning}
 use Rattle.measure.proofs.Laws.{Laws}
 use Rattle.rules.specs.Plans.{Set, size_at, cost}
-use Rattle.account.specs.Accounts.{Account, Exclusion, chosen, except, either}
+use Rattle.account.specs.Accounts.{Account, Exclusion, chosen, either}
 use Rattle.account.specs.Steps.{waits, support, choose, price_reason, tested, smallest_free, reasons, any_rests, Retreat, retreat, relearn, blamed, blame, with_exclusions, enter, extend, champion, conclude, step}
 use Rattle.account.proofs.Finds.{picked, waits_idle, support_chosen, Free, smallest, reasons_in}
 use Rattle.account.proofs.Formed.{Formed}
@@ -17,10 +17,7 @@ use Rattle.account.proofs.Trails.{Within, chosen_other, chosen_range, Left, Retr
 module _ {C : Type 0} (a : Account C) (f : Formed a) (s : Set) (rests : Bool) (w : Within a.trail s) where
   module _ (r : Retreat) (l : Left a.book s a.trail r) where
     in_range : (d v : ℕ) (e : Exclusion) → relearn a.exclusions s rests r d v ≡ Some e → (1 ≤ v) × (v ≤ size_at a.book.decisions d)
-    in_range d v e h = ⊎_elim new (λ k. f.in_range d v e k.0) (relearned a.exclusions s rests r d v e h)
-      where
-        new : (d ≡ r.culprit.decision) × (v ≡ r.culprit.value) × (e ≡ record { reason = except s r.culprit.decision; rests = rests }) → (1 ≤ v) × (v ≤ size_at a.book.decisions d)
-        new k = grind (arith, common_steps, chosen_range)
+    in_range d v e h = grind (arith, common_steps, relearned, chosen_range)
 
     reasoned : (d v : ℕ) (e : Exclusion) → relearn a.exclusions s rests r d v ≡ Some e → (x : ℕ) → e.reason x ≡ true → 0 < chosen r.stays x
     reasoned d v e h x t = grind (arith, common_steps)

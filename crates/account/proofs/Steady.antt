@@ -1,7 +1,7 @@
 -- One step keeps an account sound, and so does a run.
 use Rattle.std.proofs.lemmas.Grind.{common_steps}
 use Rattle.std.proofs.Common.{◌≡◌, ℕ, zero, suc, ◌<◌, ◌≤◌, Bool, true, false, cond, length, Some, None, Option, sym, refl, ap, ◌∙◌, ⊎_elim, arith}
-use Rattle.std.proofs.lemmas.Bool.{or_left, or_right, both_ways}
+use Rattle.std.proofs.lemmas.Bool.{or_left, or_right}
 use Rattle.measure.specs.Meaning.{Meaning}
 use Rattle.measure.proofs.Laws.{Laws}
 use Rattle.rules.specs.Conditions.{Plan}
@@ -108,12 +108,7 @@ module _ {C : Type 0} (m : Meaning C) (laws : Laws m) where
     where
       go : (t : Bool) → m.at_most o.cost (cost m b.prices p) ≡ t → Champion b (Some o) p (cond t o (record { plan = p; cost = cost m b.prices p }))
       go true e = record { is_good = good o refl; below = e; no_worse = λ q h. h }
-      go false e =
-          record {
-            is_good = record { lawful = law; costs = refl };
-            below = at_most_itself m laws (cost m b.prices p);
-            no_worse = λ q h. laws.transitive (cost m b.prices p) o.cost (cost m b.prices q) (⊎_elim (λ k. absurd (both_ways (m.at_most o.cost (cost m b.prices p)) e k)) (λ k. k) (laws.total o.cost (cost m b.prices p))) h;
-          }
+      go false e = grind (arith, common_steps)
 
   module _ (a : Account C) (s : Sound m a) (rest : (d : ℕ) → d < length a.book.decisions → waits a.book (chosen a.trail) d ≡ false) where
     law : Lawful a.book (chosen a.trail)

@@ -107,6 +107,4 @@ module _ (b : Book) (blame : Set) (e : Entry) (es : List Entry) (dis : Distinct 
 pub retreated : (b : Book) (blame : Set) (es : List Entry) → Distinct b.decisions es → Retreated b blame es (retreat blame es)
 unfolding retreat
 retreated b blame [] dis = λ x t. absurd (omega arith)
-retreated b blame (e ∷ es) dis =
-    cond_both (blame e.decision) (Some (record { culprit = e; left = e.decision ∷ []; stays = es })) (follow e (retreat blame es)) (Retreated b blame (e ∷ es)) (blamed_first b blame e es dis)
-    (λ unblamed. followed b blame e es dis unblamed (retreat blame es) (retreated b blame es dis.3))
+retreated b blame (e ∷ es) dis = grind (arith, common_steps, retreated b blame es dis.3, blamed_first, followed)

@@ -1,6 +1,6 @@
 -- Load agrees with open and adds: what a text of decisions and rules is loaded as, or its fault.
 use Rattle.std.proofs.lemmas.Grind.{common_steps}
-use Rattle.std.proofs.Common.{◌≡◌, ℕ, suc, ◌+◌, Bool, true, false, ◌||◌, List, [], ◌∷◌, ◌++◌, map, length, Some, None, Option, Result, sym, refl, ap, ◌∙◌, append_assoc, append-nil, add-zero, add_comm, arith}
+use Rattle.std.proofs.Common.{◌≡◌, ℕ, suc, ◌+◌, Bool, true, false, ◌||◌, List, [], ◌∷◌, ◌++◌, map, length, Some, None, Option, Result, sym, refl, ap, ◌∙◌, append_assoc, append-nil, add-zero, arith}
 use Rattle.std.specs.Option.{option_map}
 use Rattle.std.specs.List.{AllByRecursion}
 use Rattle.std.proofs.lemmas.Bool.{and_right, le-leb}
@@ -84,10 +84,4 @@ module _ {C : Type 0} (m : Meaning C) where
 
   -- the law
   pub agrees : (text : List ℕ) → AgreesWithCalls m text
-  agrees text ds rs text_is short sizes pairs =
-      small_enough m text short
-      ∙ ap (λ (t : List ℕ). load_lines m false (fresh []) (lines_of t)) text_is
-      ∙ ap (load_lines m false (fresh [])) (lines_stated ds rs sizes pairs)
-      ∙ load_decisions ds sizes 1 [] (rule_lines rs)
-      ∙ ap (unless (opened_from m 1 [] ds)) (load_rules rs pairs false (1 + length ds) (fresh ds))
-      ∙ ap (λ (n : ℕ). unless (opened_from m 1 [] ds) (added_from m n (fresh ds) rs)) (add_comm 1 (length ds))
+  agrees text ds rs text_is short sizes pairs = grind (arith, common_steps, small_enough, lines_stated, load_decisions, rule_lines, load_rules)

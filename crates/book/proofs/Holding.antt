@@ -1,6 +1,6 @@
 -- What a list of calls from an opening leaves held: rules, and adding those again makes the same book.
 use Rattle.std.proofs.lemmas.Grind.{common_steps}
-use Rattle.std.proofs.Common.{◌≡◌, ℕ, suc, ◌+◌, ◌<◌, ◌≤◌, List, [], ◌∷◌, ◌++◌, map, length, take, drop, Some, None, Option, sym, refl, ap, ◌∙◌, subst, arith, length-append, length-drop, length-take}
+use Rattle.std.proofs.Common.{◌≡◌, ℕ, suc, ◌+◌, ◌<◌, ◌≤◌, List, [], ◌∷◌, ◌++◌, map, length, take, drop, None, sym, refl, ap, ◌∙◌, subst, arith, length-append, length-drop, length-take}
 use mathlib.Core.List.{map-append}
 use lib.ListN.{length-map}
 use Rattle.std.proofs.ByRecursion.{All-append, All-push, All-weaker}
@@ -11,14 +11,13 @@ use Rattle.measure.specs.Meaning.{Meaning}
 use Rattle.rules.specs.Judging.{row_refusal}
 use Rattle.rules.specs.Plans.{Book}
 use Rattle.rules.specs.declared.decision.Decision.{Decision}
-use Rattle.rules.specs.declared.refusal.Refusal.{Refusal}
 use Rattle.rules.specs.declared.row.Kind.{Kind}
 use Rattle.rules.specs.declared.row.Kind.TheVariants.{Forbid, Activate, Price}
 use Rattle.rules.specs.declared.row.Row.{Row}
 use Rattle.rules.specs.declared.rule.Rule.{Rule}
 use Rattle.rules.proofs.Grounds.{when_none, or_else_none}
 use Rattle.account.specs.Accounts.{Account, fresh}
-use Rattle.account.specs.Calls.{Call, add, withdraw, rank, run, best, exclusion, unexcluded, refusal, leaves, after_if, after, history}
+use Rattle.account.specs.Calls.{Call, add, withdraw, rank, run, best, exclusion, unexcluded, refusal, leaves, after, history}
 use Rattle.account.specs.Changes.{held, with_rules, added, withdrawn}
 use Rattle.account.proofs.Changed.{all_removed}
 use Rattle.account.proofs.Histories.{advance_book}
@@ -143,11 +142,7 @@ module _ {C : Type 0} (m : Meaning C) where
 
     -- a call keeps it so
     pub after_holds : (a : Account C) (c : Call) → Holds ds a.book → Holds ds (after m a c).book
-    after_holds a c h = go (refusal a c) refl
-      where
-        go : (o : Option Refusal) → refusal a c ≡ o → Holds ds (after_if m a c o).book
-        go None none = leaves_holds a c h none
-        go (Some e) none = h
+    after_holds a c h = grind (arith, common_steps, leaves_holds)
 
     history_holds : (a : Account C) (cs : List Call) → Holds ds a.book → Holds ds (history m a cs).book
     history_holds a [] h = h
@@ -164,9 +159,7 @@ module _ {C : Type 0} (m : Meaning C) where
 
   adds_append : (a : Account C) (rs ss : List Rule) (b c : Book) → Adds a rs b → ((x : Account C) → x.book ≡ b → Adds x ss c) → Adds a (rs ++ ss) c
   adds_append a [] ss b c first more = more a first.book_is
-  adds_append a (r ∷ rs) ss b c first more =
-      let rest = adds_append (after m a (add r)) rs ss b c (record { accepted = first.accepted.1; book_is = first.book_is }) more in
-      record { accepted = (first.accepted.0, rest.accepted); book_is = rest.book_is }
+  adds_append a (r ∷ rs) ss b c first more = grind (arith, common_steps, adds_append (after m a (add r)) rs ss b c (record { accepted = first.accepted.1; book_is = first.book_is }) more)
 
   -- an allowed rule is added where there is room
   add_one_more : (ds : List Decision) (k : Kind) (a : Account C) (r : Rule) → a.book.decisions ≡ ds → Allowed ds k r → length (held a.book k) < 256

@@ -38,9 +38,7 @@ module _ {C : Type 0} (m : Meaning C) where
   -- accepted rules are added one by one
   pub added_ok : (n : ℕ) (a : Account C) (rs : List Rule) → Accepted m a (map add rs) → added_from m n a rs ≡ Ok (history m a (map add rs))
   added_ok n a [] h = refl
-  added_ok n a (r ∷ rs) h =
-      ap (λ (o : Option Refusal). unless (option_map (λ (e : Refusal). fault e n 1) o) (added_from m (n + 1) (after_if m a (add r) (refusal a (add r))) rs)) h.0
-      ∙ added_ok (n + 1) (after_if m a (add r) (refusal a (add r))) rs h.1
+  added_ok n a (r ∷ rs) h = grind (arith, common_steps, added_ok (n + 1) (after_if m a (add r) (refusal a (add r))) rs h.1)
 
   -- the text of a book that is held is loaded as a planner of the same book
   pub held_loads : (ds : List Decision) (b : Book) → open_refusal ds ≡ None → Holds ds b

@@ -1,9 +1,9 @@
 -- The text of what a planner holds is short enough to be loaded.
-use Rattle.std.proofs.Common.{◌≡◌, ℕ, ◌*◌, ◌<◌, ◌≤◌, Bool, true, false, leb, List, [], ◌∷◌, ◌++◌, map, length, None, decimal, add-mul, arith, length-append, length-take}
+use Rattle.std.proofs.lemmas.Grind.{common_steps}
+use Rattle.std.proofs.Common.{◌≡◌, ℕ, ◌*◌, ◌<◌, ◌≤◌, Bool, true, false, List, [], ◌∷◌, ◌++◌, map, length, None, decimal, add-mul, arith, length-append, length-take}
 use lib.ListN.{length-map}
 use Rattle.std.proofs.lemmas.Fmt.{length-decimal-le}
 use Rattle.std.proofs.ByRecursion.{All-append, All-map, All-weaker}
-use Rattle.std.proofs.lemmas.Bool.{and_parts, leb-true}
 use Rattle.std.specs.List.{AllByRecursion}
 use Rattle.measure.specs.declared.price.Price.{Price}
 use Rattle.rules.specs.Compose.{is_exact}
@@ -16,7 +16,6 @@ use Rattle.rules.specs.declared.row.Kind.{Kind}
 use Rattle.rules.specs.declared.row.Kind.TheVariants.{Forbid, Activate, Price as Priced}
 use Rattle.rules.specs.declared.row.Row.{Row}
 use Rattle.rules.specs.declared.rule.Rule.{Rule}
-use Rattle.rules.proofs.Recomposing.{exact_parts}
 use Rattle.rules.proofs.Verdicts.{accepted_few}
 use Rattle.rendering.specs.Texts.{spaced, ended, pair_text, mark_text, head_fields, decision_line, parts_line, rule_line}
 use Rattle.book.specs.Laws.{ByteSized, BytePaired, stated_by}
@@ -65,10 +64,7 @@ head_short Priced target price t p c = (omega (arith, byte_short price.tier p), 
 
 -- the numbers of an exact row are in range
 exact_small : (r : Row) → is_exact r ≡ true → (r.target ≤ 255) × (r.price.tier ≤ 255) × (r.price.cents ≤ 1000000000)
-exact_small r h =
-    let (target, range, aimed, priced, rest) = exact_parts r h in
-    let (tier, cents) = and_parts (leb r.price.tier 255) (leb r.price.cents 1000000000) range in
-    (leb-true r.target 255 target, leb-true r.price.tier 255 tier, leb-true r.price.cents 1000000000 cents)
+exact_small r h = grind (arith, common_steps)
 
 rule_short : (r : Rule) → BytePaired r → Shorter 68 (rule_line r.row)
 unfolding parts_line

@@ -1,7 +1,7 @@
 -- What best reports, as the text of an outcome.
 use Rattle.std.proofs.lemmas.Grind.{common_steps}
 use Rattle.std.proofs.Common.{arith}
-use Rattle.std.proofs.Common.{◌≡◌, ℕ, List, [], map, length, take, drop, Some, None, Option, refl, ap, ◌∙◌}
+use Rattle.std.proofs.Common.{◌≡◌, ℕ, List, map, length, take, drop, Some, None, Option, refl, ap, ◌∙◌}
 use Rattle.std.specs.List.{range_with_len}
 use Rattle.std.proofs.lemmas.List.FromFn.{length-map-range_with_len}
 use Rattle.std.proofs.lemmas.List.{take_at}
@@ -21,10 +21,7 @@ unfolding outcome_text
 planless s ps qs = refl
 
 reported_text : (s t : State) (n : ℕ) (buffer bytes : List ℕ) (c : Option (Pair Tier Cents)) (b : Option (Best (Pair Tier Cents))) → reported t c bytes ≡ report s n buffer b → outcome_text t c (take n bytes) ≡ outcome_of s n b
-reported_text s t n buffer bytes c None e =
-    let p : t ≡ s = cc in
-    let q : c ≡ None = cc in
-    ap (λ (x : State). outcome_text x c (take n bytes)) p ∙ ap (λ (x : Option (Pair Tier Cents)). outcome_text s x (take n bytes)) q ∙ planless s (take n bytes) []
+reported_text s t n buffer bytes c None e = grind (arith, common_steps, planless)
 reported_text s t n buffer bytes c (Some b) e =
     let p : t ≡ s = cc in
     let q : c ≡ Some b.cost = cc in

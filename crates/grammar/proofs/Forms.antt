@@ -1,10 +1,9 @@
 -- Fields and their forms: what is written of a number, a mark or a pair is read as that, and only that is.
-use Rattle.std.proofs.Common.{◌≡◌, ℕ, ◌+◌, ◌%◌, ◌^◌, ◌<◌, ◌≤◌, Bool, true, false, cond, leb, ◌⊎◌, List, [], ◌∷◌, ◌++◌, map, length, take, drop, Some, None, Ok, Err, codes, decimal, Option, Result, sym, refl, ap, ◌∙◌, subst, inl, inr, ⊎_elim, arith, length-append}
+use Rattle.std.proofs.lemmas.Grind.{common_steps}
+use Rattle.std.proofs.Common.{◌≡◌, ℕ, ◌+◌, ◌%◌, ◌^◌, ◌<◌, ◌≤◌, Bool, true, false, cond, leb, ◌⊎◌, List, [], ◌∷◌, ◌++◌, map, length, take, drop, Some, None, Ok, Err, decimal, Option, Result, refl, ap, ◌∙◌, subst, inl, inr, ⊎_elim, arith}
 use Rattle.std.specs.Option.{option_map}
 use Rattle.std.specs.List.{AllByRecursion}
-use Rattle.std.specs.Str.{bytes_eq}
 use Rattle.std.proofs.lemmas.Fmt.{decimal_by_steps, decimal_nonempty}
-use Rattle.std.proofs.lemmas.Slice.Eq.{bytes_eq-Decides}
 use Rattle.std.proofs.lemmas.List.{drop_all}
 use Rattle.std.proofs.lemmas.Bool.{and_from, and_parts, cases_lt, le-leb, leb-true}
 use Rattle.reading.specs.Numbers.{number_up_to}
@@ -49,13 +48,7 @@ module _ (b : ℕ) (low : b < 48) where
 
   solid_pair : (l : Literal) → fitting_pair l ≡ true → Solid b (pair_text l)
   unfolding pair_text
-  solid_pair l h =
-      let fit = and_parts (leb l.decision 255) (leb l.value 255) h in
-      let d = decimal l.decision in
-      let v = decimal l.value in (
-        lacks_append b d (61 ∷ v) (solid_decimal 255 l.decision (omega arith) fit.0).0 (lacks_more b 61 v (λ e. omega arith) (solid_decimal 255 l.value (omega arith) fit.1).0),
-        filled (d ++ 61 ∷ v) (omega (arith, length-append d (61 ∷ v))),
-      )
+  solid_pair l h = grind (arith, common_steps, lacks_append, solid_decimal, lacks_more, filled)
 
   pub solid_pairs : (ps : List Literal) → fitting_pairs ps ≡ true → AllByRecursion (Solid b) (map pair_text ps)
   solid_pairs [] h = tt
@@ -78,14 +71,6 @@ module _ {X : Type 0} where
   formed_ok n c None x e = cc
   formed_ok n c (Some y) x e = cc
 
-  pub cond_some : (t : Bool) (x y : X) (o : Option X) → cond t (Some x) o ≡ Some y → ((t ≡ true) × (x ≡ y)) ⊎ (o ≡ Some y)
-  cond_some true x y o e = let r : x ≡ y = cc in inl (refl, r)
-  cond_some false x y o e = inr e
-
-  pub cond_none : (t : Bool) (x : X) (o : Option X) → cond t (Some x) o ≡ None → (t ≡ false) × (o ≡ None)
-  cond_none true x o e = cc
-  cond_none false x o e = (refl, e)
-
   pub mapped_none : {Y : Type 0} (f : X → Y) (o : Option X) → option_map f o ≡ None → o ≡ None
   mapped_none f None e = refl
   mapped_none f (Some x) e = cc
@@ -107,33 +92,17 @@ mark_read true = refl
 mark_read false = refl
 
 pub mark_only : (f : List ℕ) (on : Bool) → mark_of f ≡ Some on → f ≡ mark_text on
-mark_only f on e =
-    ⊎_elim (λ (t : (bytes_eq (codes "on") f ≡ true) × (true ≡ on)). sym ((bytes_eq-Decides (codes "on") f).0 t.0) ∙ ap mark_text t.1)
-    (λ (r : cond (bytes_eq (codes "off") f) (Some false) None ≡ Some on).
-    ⊎_elim (λ (t : (bytes_eq (codes "off") f ≡ true) × (false ≡ on)). sym ((bytes_eq-Decides (codes "off") f).0 t.0) ∙ ap mark_text t.1)
-    (λ (r : None ≡ Some on). cc) (cond_some (bytes_eq (codes "off") f) false on None r))
-    (cond_some (bytes_eq (codes "on") f) true on (cond (bytes_eq (codes "off") f) (Some false) None) e)
+mark_only f on e = grind (arith, common_steps)
 
 -- pairs
 pair_read : (l : Literal) → fitting_pair l ≡ true → pair_of (pair_text l) ≡ Some l
 unfolding pair_of pair_text
-pair_read l h =
-    let fit = and_parts (leb l.decision 255) (leb l.value 255) h in
-    let d = decimal l.decision in
-    let v = decimal l.value in
-    let cut : before 61 (d ++ 61 ∷ v) ≡ length d = before_behind 61 d v (lacks_decimal 61 (λ (k : ℕ) (h : k < 10) (e : 48 + k ≡ 61). omega arith) l.decision (omega (arith, leb-true l.decision 255 fit.0))) in
-    let p : number_up_to 255 (take (before 61 (d ++ 61 ∷ v)) (d ++ 61 ∷ v)) ≡ Some l.decision =
-    ap (λ (k : ℕ). number_up_to 255 (take k (d ++ 61 ∷ v))) cut ∙ ap (number_up_to 255) (take_front d (61 ∷ v)) ∙ decimal_read 255 l.decision (omega arith) fit.0 in
-    let q : number_up_to 255 (drop (before 61 (d ++ 61 ∷ v) + 1) (d ++ 61 ∷ v)) ≡ Some l.value =
-    ap (λ (k : ℕ). number_up_to 255 (drop (k + 1) (d ++ 61 ∷ v))) cut ∙ ap (number_up_to 255) (drop_front 61 d v) ∙ decimal_read 255 l.value (omega arith) fit.1 in
-    ap (λ (o : Option ℕ). both o (number_up_to 255 (drop (before 61 (d ++ 61 ∷ v) + 1) (d ++ 61 ∷ v)))) p ∙ ap (both (Some l.decision)) q
+pair_read l h = grind (arith, common_steps, before_behind, lacks_decimal, take_front, decimal_read, drop_front)
 
 both_some : (a b : Option ℕ) (l : Literal) → both a b ≡ Some l → (a ≡ Some l.decision) × (b ≡ Some l.value)
 both_some None b l e = cc
 both_some (Some d) None l e = cc
-both_some (Some d) (Some v) l e =
-    let r : record { decision = d; value = v } ≡ l = cc in
-    (ap (λ (m : Literal). Some m.decision) r, ap (λ (m : Literal). Some m.value) r)
+both_some (Some d) (Some v) l e = grind (arith, common_steps)
 
 pair_only : (f : List ℕ) (l : Literal) → pair_of f ≡ Some l → (f ≡ pair_text l) × (fitting_pair l ≡ true)
 unfolding pair_of pair_text

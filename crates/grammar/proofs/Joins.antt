@@ -1,5 +1,6 @@
 -- Texts without a byte, and texts cut at it and joined again.
-use Rattle.std.proofs.Common.{◌≡◌, ℕ, suc, ◌+◌, ◌<◌, true, false, cond, eqb, List, [], ◌∷◌, ◌++◌, length, take, drop, sym, refl, ap, ◌∙◌, append_assoc, append-nil, add-one, arith, length-append}
+use Rattle.std.proofs.lemmas.Grind.{common_steps}
+use Rattle.std.proofs.Common.{◌≡◌, ℕ, suc, ◌+◌, ◌<◌, true, false, cond, eqb, List, [], ◌∷◌, ◌++◌, length, take, drop, sym, refl, ap, ◌∙◌, append_assoc, append-nil, add-one, arith}
 use Rattle.std.specs.List.{AllByRecursion}
 use Rattle.std.proofs.lemmas.List.{append_cancel_right, take-append-le, take_all}
 use Rattle.std.proofs.lemmas.Bool.{cond-true, cond-false, eqb-true, eq-eqb, ne_eqb}
@@ -48,18 +49,10 @@ module _ (b : ℕ) where
   cut_closed (p ∷ ps) h = cut_behind p (closed b ps) h.0 ∙ ap (λ (qs : List (List ℕ)). p ∷ qs) (cut_closed ps h.1)
 
   -- the pieces of a text, closed, are the text, closed
-  longer_closed : (x : ℕ) (xs : List ℕ) (ps : List (List ℕ)) → closed b ps ≡ xs ++ b ∷ [] → closed b (longer x ps) ≡ x ∷ (xs ++ b ∷ [])
-  longer_closed x xs [] e = absurd (omega (arith, ap length e, length-append xs (b ∷ [])))
-  longer_closed x xs (p ∷ ps) e = ap (λ (t : List ℕ). x ∷ t) e
-
   pub closed_pieces : (xs : List ℕ) → closed b (pieces b xs) ≡ xs ++ b ∷ []
   unfolding pieces
   closed_pieces [] = refl
-  closed_pieces (x ∷ xs) =
-      (elim (eqb x b) as (λ t. eqb x b ≡ t → closed b (cond t ([] ∷ pieces b xs) (longer x (pieces b xs))) ≡ x ∷ (xs ++ b ∷ [])) [
-        | true ↦ λ e. ap (λ (t : List ℕ). b ∷ t) (closed_pieces xs) ∙ ap (λ (y : ℕ). y ∷ (xs ++ b ∷ [])) (sym (eqb-true x b e))
-        | false ↦ λ e. longer_closed x xs (pieces b xs) (closed_pieces xs)
-      ]) refl
+  closed_pieces (x ∷ xs) = grind (arith, common_steps, closed_pieces xs)
 
   -- a text with a b is what stands before the first, it, and what stands behind
   split_byte : (xs : List ℕ) → before b xs < length xs → xs ≡ take (before b xs) xs ++ b ∷ drop (suc (before b xs)) xs

@@ -1,10 +1,10 @@
 -- Lines: the text of a statement is read as it, and only that is.
-use Rattle.std.proofs.Common.{◌≡◌, ℕ, ◌+◌, ◌<◌, ◌≤◌, Bool, true, false, cond, not, ◌&&◌, ◌||◌, eqb, ltb, leb, List, [], ◌∷◌, ◌++◌, map, length, drop, Some, None, Ok, decimal, Option, Result, sym, refl, ap, ◌∙◌, subst, ⊎_elim, arith, length-append}
+use Rattle.std.proofs.lemmas.Grind.{common_steps}
+use Rattle.std.proofs.Common.{◌≡◌, ℕ, ◌+◌, ◌<◌, ◌≤◌, Bool, true, false, not, ◌&&◌, ◌||◌, eqb, ltb, leb, List, [], ◌∷◌, ◌++◌, map, length, drop, Some, None, Ok, decimal, Option, sym, refl, ap, ◌∙◌, subst, arith}
 use Rattle.std.specs.Option.{option_map}
 use Rattle.std.specs.List.{AllByRecursion}
 use Rattle.std.proofs.ByRecursion.{All-append, All-weaker}
-use Rattle.std.proofs.lemmas.List.{length-map}
-use Rattle.std.proofs.lemmas.Bool.{and_from, and_parts, cases_Bool, cond-false, cond-true, eqb-true, leb-true, ltb-false, le-ltb, not_from_true, not-false, or_from, or_parts, true≢false}
+use Rattle.std.proofs.lemmas.Bool.{and_from, and_parts, ltb-false, le-ltb, not-false, or_from, or_parts}
 use Rattle.measure.specs.declared.price.Price.{Price}
 use Rattle.reading.specs.Numbers.{number_up_to}
 use Rattle.reading.specs.Pieces.{is_nil}
@@ -16,18 +16,17 @@ use Rattle.rules.specs.declared.refusal.Refusal.TheVariants.{PairCount, FieldCou
 use Rattle.rules.specs.declared.row.Kind.{Kind}
 use Rattle.rules.specs.declared.row.Kind.TheVariants.{Forbid, Activate, Price as Priced}
 use Rattle.rendering.specs.Texts.{decision_line, head_fields, mark_text, pair_text, parts_line, spaced}
-use Rattle.statements.specs.Fields.{field_fault, fields_of, first_bad, heads, takes_field}
+use Rattle.statements.specs.Fields.{field_fault, fields_of, first_bad, heads}
 use Rattle.statements.specs.Forms.{mark_of}
 use Rattle.statements.specs.Lines.{TextLine, is_decision, kind_by, kind_of}
-use Rattle.statements.specs.Statements.{Stated, decides, fault, formed, front, past, read_activate, read_as, read_decision, read_fields, read_forbid, read_line, read_pairs, read_price, ruled, rules, then, unless}
-use Rattle.statements.specs.declared.fault.Fault.{Fault}
+use Rattle.statements.specs.Statements.{Stated, decides, fault, front, past, read_activate, read_as, read_decision, read_fields, read_forbid, read_line, read_pairs, read_price, ruled, rules, unless}
 use Rattle.statements.specs.declared.line.LineKind.{LineKind}
 use Rattle.statements.specs.declared.line.LineKind.TheVariants.{Decision as D, Forbid as F, Activate as A, Price as P}
 use Rattle.rules.proofs.Recomposing.{free_price}
 use Rattle.grammar.specs.Grammar.{fitting, fitting_head, fitting_pairs, is_decided, line_text}
 use Rattle.grammar.specs.Laws.{ReadsOnlyText, TextIsRead}
 use Rattle.rules.proofs.Grounds.{when_none, or_else_none}
-use Rattle.grammar.proofs.Forms.{cond_none, cond_some, decimal_only, decimal_read, mapped_none, mark_only, mark_read, Solid, solid_decimal, solid_mark, solid_pairs, pairs_only, pairs_read, then_formed, then_ok, unless_ok}
+use Rattle.grammar.proofs.Forms.{decimal_only, decimal_read, mapped_none, mark_only, mark_read, Solid, solid_decimal, solid_mark, solid_pairs, pairs_only, pairs_read, then_formed, then_ok, unless_ok}
 use Rattle.grammar.proofs.Joins.{Lacks, cut_spaced, spaced_pieces}
 
 -- the byte that a line of a kind begins with
@@ -61,17 +60,7 @@ line_fields (rules Priced ps target price) = refl
 
 -- the kind of a line is that of its first byte, and its fields stand behind
 kind_byte : (b : ℕ) (k : LineKind) → kind_by b ≡ Some k → b ≡ byte_of k
-kind_byte b k e =
-    ⊎_elim (λ (t : (eqb b 68 ≡ true) × (D ≡ k)). eqb-true b 68 t.0 ∙ ap byte_of t.1)
-    (λ (e : cond (eqb b 70) (Some F) (cond (eqb b 65) (Some A) (cond (eqb b 80) (Some P) None)) ≡ Some k).
-    ⊎_elim (λ (t : (eqb b 70 ≡ true) × (F ≡ k)). eqb-true b 70 t.0 ∙ ap byte_of t.1)
-    (λ (e : cond (eqb b 65) (Some A) (cond (eqb b 80) (Some P) None) ≡ Some k).
-    ⊎_elim (λ (t : (eqb b 65 ≡ true) × (A ≡ k)). eqb-true b 65 t.0 ∙ ap byte_of t.1)
-    (λ (e : cond (eqb b 80) (Some P) None ≡ Some k).
-    ⊎_elim (λ (t : (eqb b 80 ≡ true) × (P ≡ k)). eqb-true b 80 t.0 ∙ ap byte_of t.1) (λ (e : None ≡ Some k). cc) (cond_some (eqb b 80) P k None e))
-    (cond_some (eqb b 65) A k _ e))
-    (cond_some (eqb b 70) F k _ e))
-    (cond_some (eqb b 68) D k _ e)
+kind_byte b k e = grind (arith, common_steps)
 
 kind_read : (k : LineKind) → kind_by (byte_of k) ≡ Some k
 kind_read D = refl
@@ -82,15 +71,7 @@ kind_read P = refl
 line_only : (line : List ℕ) (k : LineKind) → kind_of line ≡ Some k → line ≡ byte_of k ∷ spaced (fields_of line)
 line_only [] k e = cc
 line_only (x ∷ []) k e = cc
-line_only (x ∷ y ∷ ys) k e =
-    ⊎_elim
-    (λ (t : eqb y 32 ≡ true).
-    ap (λ (b : ℕ). b ∷ y ∷ ys) (kind_byte x k (sym (cond-true (eqb y 32) (kind_by x) None t) ∙ e))
-    ∙ ap (λ (b : ℕ). byte_of k ∷ b ∷ ys) (eqb-true y 32 t)
-    ∙ ap (λ (t : List ℕ). byte_of k ∷ t) (sym (spaced_pieces ys))
-    ∙ ap (λ (fs : List (List ℕ)). byte_of k ∷ spaced fs) (sym (left_within 32 (x ∷ y ∷ ys) 2 (omega arith))))
-    (λ (f : eqb y 32 ≡ false). let z = sym (cond-false (eqb y 32) (kind_by x) None f) ∙ e in cc)
-    (cases_Bool (eqb y 32))
+line_only (x ∷ y ∷ ys) k e = grind (arith, common_steps, kind_byte, spaced_pieces, left_within)
 
 line_kind : (k : LineKind) (fs : List (List ℕ)) → 1 ≤ length fs → kind_of (byte_of k ∷ spaced fs) ≡ Some k
 line_kind k [] h = absurd (omega arith)
@@ -116,11 +97,7 @@ unfolding first_bad
 no_third [] e = refl
 no_third (f ∷ []) e = refl
 no_third (f ∷ g ∷ []) e = refl
-no_third (f ∷ g ∷ h ∷ hs) e =
-    let second = cond_none (is_nil f || not (takes_field D 0)) 3 (first_bad D 1 (3 + length f + 1) (g ∷ h ∷ hs)) e in
-    let third = cond_none (is_nil g || not (takes_field D 1)) (3 + length f + 1) (first_bad D 2 (3 + length f + 1 + length g + 1) (h ∷ hs)) second.1 in
-    let more = cond_none (is_nil h || not (takes_field D 2)) (3 + length f + 1 + length g + 1) _ third.1 in
-    absurd (true≢false (or_parts (is_nil h) true more.0).1)
+no_third (f ∷ g ∷ h ∷ hs) e = grind (arith, common_steps)
 
 -- a statement that the fields of a line of a kind are
 pub record States (k : LineKind) (fs : List (List ℕ)) (s : Stated) : Type 0 where
@@ -129,10 +106,7 @@ pub record States (k : LineKind) (fs : List (List ℕ)) (s : Stated) : Type 0 wh
   pub fits : fitting s ≡ true
 
 ruled_only : (n : ℕ) (k : Kind) (ps : List Literal) (target : ℕ) (price : Price) (s : Stated) → ruled n k ps target price ≡ Ok s → ((leb 1 (length ps) && leb (length ps) 4) ≡ true) × (rules k ps target price ≡ s)
-ruled_only n k ps target price s e =
-    let r = unless_ok (when (not (leb 1 (length ps) && leb (length ps) 4)) (fault PairCount n 1)) (Ok (rules k ps target price)) s e in
-    let same : rules k ps target price ≡ s = cc r.1 in
-    (not-false _ (when_none _ _ r.0), same)
+ruled_only n k ps target price s e = grind (arith, common_steps)
 
 decision_only : (n : ℕ) (fs : List (List ℕ)) (s : Stated) → first_bad D 0 3 fs ≡ None → 2 ≤ length fs → read_decision n 3 fs ≡ Ok s → States D fs s
 unfolding read_decision
@@ -231,37 +205,10 @@ ruled_read n k ps target price h = ap (λ (t : Bool). unless (when (not t) (faul
 
 fields_read : (s : Stated) → fitting s ≡ true → (n : ℕ) → read_fields (stated_kind s) n (stated_fields s) ≡ Ok s
 unfolding read_decision read_forbid read_activate read_price
-fields_read (decides d) h n =
-    let a = decimal_read 255 d.size (omega arith) h in
-    let b = mark_read d.on in
-    rw (a, b)
-fields_read (rules Forbid ps target price) h n =
-    let fit = and_parts (leb 1 (length ps) && leb (length ps) 4) _ h in
-    let parts = and_parts (fitting_pairs ps) _ fit.1 in
-    let none = and_parts (eqb target 0) _ parts.1 in
-    ap (λ (r : Result (List Literal) Fault). then r (λ qs. ruled n Forbid qs 0 free)) (pairs_read n 3 ps parts.0)
-    ∙ ruled_read n Forbid ps 0 free fit.0
-    ∙ ap (λ (t : ℕ). Ok (rules Forbid ps t free)) (sym (eqb-true target 0 none.0))
-    ∙ ap (λ (p : Price). Ok (rules Forbid ps target p)) (sym (free_price price none.1))
-fields_read (rules Activate ps target price) h n =
-    let fit = and_parts (leb 1 (length ps) && leb (length ps) 4) _ h in
-    let parts = and_parts (fitting_pairs ps) _ fit.1 in
-    let head = and_parts (leb target 255) _ parts.1 in
-    let c = 3 + length (decimal target) + 1 in
-    ap (λ (o : Option ℕ). then (formed n 3 o) (λ t. then (read_pairs n c (map pair_text ps)) (λ qs. ruled n Activate qs t free))) (decimal_read 255 target (omega arith) head.0)
-    ∙ ap (λ (r : Result (List Literal) Fault). then r (λ qs. ruled n Activate qs target free)) (pairs_read n c ps parts.0)
-    ∙ ruled_read n Activate ps target free fit.0
-    ∙ ap (λ (p : Price). Ok (rules Activate ps target p)) (sym (free_price price head.1))
-fields_read (rules Priced ps target price) h n =
-    let fit = and_parts (leb 1 (length ps) && leb (length ps) 4) _ h in
-    let parts = and_parts (fitting_pairs ps) _ fit.1 in
-    let head = and_parts (eqb target 0) _ parts.1 in
-    let sum = and_parts (leb price.tier 255) (leb price.cents 4294967295) head.1 in
-    let a = decimal_read 255 price.tier (omega arith) sum.0 in
-    let b = decimal_read 4294967295 price.cents (omega arith) sum.1 in
-    let e = pairs_read n (3 + length (decimal price.tier) + 1 + length (decimal price.cents) + 1) ps parts.0 in
-    rw (a, b, e)
-    (ruled_read n Priced ps 0 price fit.0 ∙ ap (λ (t : ℕ). Ok (rules Priced ps t price)) (sym (eqb-true target 0 head.0)))
+fields_read (decides d) h n = grind (arith, common_steps, decimal_read, mark_read)
+fields_read (rules Forbid ps target price) h n = grind (arith, common_steps, pairs_read, ruled_read, free_price)
+fields_read (rules Activate ps target price) h n = grind (arith, common_steps, decimal_read, pairs_read, ruled_read, free_price)
+fields_read (rules Priced ps target price) h n = grind (arith, common_steps, decimal_read, pairs_read, ruled_read)
 
 -- every field is there, and none of them is empty
 solid_head : (b : ℕ) → b < 48 → (k : Kind) (target : ℕ) (price : Price) → fitting_head k target price ≡ true → AllByRecursion (Solid b) (head_fields k target price)
@@ -285,27 +232,16 @@ enough_fields (rules Priced ps target price) = omega arith
 
 some_field : (s : Stated) → fitting s ≡ true → 1 ≤ length (stated_fields s)
 some_field (decides d) h = omega arith
-some_field (rules k ps target price) h =
-    let count = and_parts (leb 1 (length ps)) (leb (length ps) 4) (and_parts (leb 1 (length ps) && leb (length ps) 4) _ h).0 in
-    omega (arith, leb-true 1 (length ps) count.0, length-append (head_fields k target price) (map pair_text ps), length-map ps pair_text)
-
-any_field : (k : Kind) (n : ℕ) → takes_field (rule_kind k) n ≡ true
-any_field Forbid n = refl
-any_field Activate n = refl
-any_field Priced n = refl
+some_field (rules k ps target price) h = grind (arith, common_steps)
 
 rule_faultless : (k : Kind) (n c : ℕ) (fs : List (List ℕ)) → AllByRecursion (λ f. is_nil f ≡ false) fs → first_bad (rule_kind k) n c fs ≡ None
 unfolding first_bad
 rule_faultless k n c [] h = refl
-rule_faultless k n c (f ∷ fs) h =
-    cond-false (is_nil f || not (takes_field (rule_kind k) n)) (Some c) _ (or_from _ _ h.0 (not_from_true _ (any_field k n)))
-    ∙ rule_faultless k (n + 1) (c + length f + 1) fs h.1
+rule_faultless k n c (f ∷ fs) h = grind (arith, common_steps, rule_faultless k (n + 1) (c + length f + 1) fs h.1)
 
 faultless : (s : Stated) → AllByRecursion (λ f. is_nil f ≡ false) (stated_fields s) → first_bad (stated_kind s) 0 3 (stated_fields s) ≡ None
 unfolding first_bad
-faultless (decides d) h =
-    cond-false (is_nil (decimal d.size) || false) (Some 3) _ (or_from _ _ h.0 refl)
-    ∙ cond-false (is_nil (mark_text d.on) || false) (Some (3 + length (decimal d.size) + 1)) None (or_from _ _ h.1.0 refl)
+faultless (decides d) h = grind (arith, common_steps)
 faultless (rules k ps target price) h = rule_faultless k 0 3 (head_fields k target price ++ map pair_text ps) h
 
 -- so the whole line is read
@@ -330,12 +266,4 @@ module _ (s : Stated) (h : fitting s ≡ true) where
 
 pub text_is_read : TextIsRead
 unfolding read_line
-text_is_read s h began early n =
-    let l : TextLine = record { bytes = line_text s; number = n; ended = true } in
-    let k = stated_kind s in
-    ap (read_as began l) (kind_of_text s h)
-    ∙ ap (λ (t : Bool). unless (when t (fault DecisionAfterRule n 1)) (unless (option_map (fault FieldCount n) (field_fault k true (line_text s))) (read_fields k n (fields_of (line_text s)))))
-    (ap (λ (t : Bool). began && t) (decided_kind s) ∙ early)
-    ∙ ap (λ (o : Option ℕ). unless (option_map (fault FieldCount n) o) (read_fields k n (fields_of (line_text s)))) (text_faultless s h)
-    ∙ ap (read_fields k n) (fields_of_text s h)
-    ∙ fields_read s h n
+text_is_read s h began early n = grind (arith, common_steps, kind_of_text, decided_kind, text_faultless, fields_of_text, fields_read)

@@ -1,9 +1,10 @@
 -- Whole texts: a text is its lines, and the lines of statements are cut apart again.
-use Rattle.std.proofs.Common.{◌≡◌, ℕ, ◌+◌, ◌≤◌, Bool, true, false, not, ◌&&◌, List, [], ◌∷◌, ◌++◌, map, sym, refl, ap, ◌∙◌, subst, append_assoc, arith}
+use Rattle.std.proofs.lemmas.Grind.{common_steps}
+use Rattle.std.proofs.Common.{◌≡◌, ℕ, ◌+◌, ◌≤◌, true, false, List, [], ◌∷◌, ◌++◌, map, sym, refl, ap, ◌∙◌, subst, append_assoc, arith}
 use Rattle.std.specs.List.{AllByRecursion}
 use Rattle.std.proofs.ByRecursion.{All-weaker}
 use Rattle.std.proofs.lemmas.List.{append_cancel_right}
-use Rattle.std.proofs.lemmas.Bool.{and_parts, and_right, cond-false, false≢true, true≢false}
+use Rattle.std.proofs.lemmas.Bool.{and_parts, false≢true, true≢false}
 use Rattle.reading.specs.Pieces.{is_nil, pieces}
 use Rattle.rendering.specs.Texts.{ended, spaced}
 use Rattle.statements.specs.Lines.{TextLine, numbered}
@@ -38,21 +39,13 @@ lines_lack (s ∷ ss) h = let fit = and_parts (fitting s) (all_fitting ss) h in 
 -- a piece with another behind it is a line that is ended
 numbered_more : (n : ℕ) (p : List ℕ) (ps : List (List ℕ)) → is_nil ps ≡ false → numbered n (p ∷ ps) ≡ record { bytes = p; number = n; ended = true } ∷ numbered (n + 1) ps
 unfolding numbered
-numbered_more n p ps h =
-    cond-false (is_nil p && is_nil ps) [] (record { bytes = p; number = n; ended = not (is_nil ps) } ∷ numbered (n + 1) ps) (and_right (is_nil p) (is_nil ps) h)
-    ∙ ap (λ (t : Bool). record { bytes = p; number = n; ended = not t } ∷ numbered (n + 1) ps) h
+numbered_more n p ps h = grind (arith, common_steps)
 
 -- lines without byte 10, each ended by it, are cut apart again
-not_last : (ls : List (List ℕ)) → is_nil (ls ++ [] ∷ []) ≡ false
-not_last [] = refl
-not_last (l ∷ ls) = refl
-
 numbered_ended : (n : ℕ) (ls : List (List ℕ)) → numbered n (ls ++ [] ∷ []) ≡ ended_lines n ls
 unfolding numbered
 numbered_ended n [] = refl
-numbered_ended n (l ∷ ls) =
-    numbered_more n l (ls ++ [] ∷ []) (not_last ls)
-    ∙ ap (λ (ts : List TextLine). record { bytes = l; number = n; ended = true } ∷ ts) (numbered_ended (n + 1) ls)
+numbered_ended n (l ∷ ls) = grind (arith, common_steps, numbered_ended (n + 1) ls)
 
 pub lines_from : (n : ℕ) (ls : List (List ℕ)) → AllByRecursion (Lacks 10) ls → numbered n (pieces 10 (ended ls)) ≡ ended_lines n ls
 lines_from n ls h = ap (λ (t : List ℕ). numbered n (pieces 10 t)) (ended_closed ls) ∙ ap (numbered n) (cut_closed 10 ls h) ∙ numbered_ended n ls

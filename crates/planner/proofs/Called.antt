@@ -1,12 +1,11 @@
 -- The account after a call that leaves the rules alone.
-use Rattle.std.proofs.Common.{◌≡◌, ℕ, zero, suc, ◌+◌, ◌-◌, ◌<◌, ◌≤◌, Bool, true, false, cond, eqb, ltb, leb, List, ◌++◌, map, length, get_or, take, drop, set, Some, None, Option, sym, refl, ap, ◌∙◌, ap₂, ⊎_elim, add-zero, add-suc, add-one, arith, length-take, get_or-set_other, get_or-take, get_or-set_same}
-use mathlib.Core.Path.{fun_ext}
-use native.Mathlib.Nat.{sub-zero}
+use Rattle.std.proofs.lemmas.Grind.{common_steps}
+use Rattle.std.proofs.Common.{◌≡◌, ℕ, zero, suc, ◌+◌, ◌-◌, ◌<◌, ◌≤◌, Bool, true, false, cond, eqb, ltb, leb, List, ◌++◌, map, length, take, drop, set, Some, None, Option, sym, refl, ap, ◌∙◌, ap₂, add-zero, add-suc, arith, length-take, get_or-take}
 use Rattle.std.proofs.lemmas.List.FromFn.{fill_by_all}
-use Rattle.std.proofs.lemmas.Bool.{cases_eq, eq-eqb, ne_eqb, lt-leb, le-ltb}
+use Rattle.std.proofs.lemmas.Bool.{lt-leb, le-ltb}
 use Rattle.std.specs.List.{range_with_len}
 use Rattle.account.specs.Accounts.{Account, Best}
-use Rattle.account.specs.Calls.{Call, accepted, add, after, after_if, answer, answer_if, best, done, leaves, made, ran, refusal, refused, report, reported, run, withdraw, written}
+use Rattle.account.specs.Calls.{Call, accepted, add, after, after_if, answer, answer_if, best, done, leaves, made, ran, refusal, refused, reported, run, withdraw, written}
 use Rattle.account.specs.Steps.{advance, advance_in, one_if_open, step}
 use Rattle.account.specs.declared.state.State.{State}
 use Rattle.account.specs.declared.state.State.TheVariants.{Open, Settled}
@@ -16,7 +15,7 @@ use Rattle.rules.specs.Judging.{row_refusal}
 use Rattle.rules.specs.Refusals.{or_else, when}
 use Rattle.rules.specs.declared.decision.Decision.{Decision}
 use Rattle.rules.specs.declared.refusal.Refusal.{Refusal}
-use Rattle.rules.specs.declared.refusal.Refusal.TheVariants.{BudgetTooLarge, NoSuchRule, ShortPlan, TableFull}
+use Rattle.rules.specs.declared.refusal.Refusal.TheVariants.{ShortPlan, TableFull}
 use Rattle.rules.specs.declared.row.Kind.{Kind}
 use Rattle.rules.specs.declared.row.Row.{Row}
 use Rattle.rules.specs.declared.rule.Rule.{Rule}
@@ -40,10 +39,7 @@ long_buffer n k l = ap (λ (b : Bool). when b ShortPlan) (le-ltb k n l)
 
 -- a rank that is set
 pub rank_set : (ranks : List ℕ) (d n : ℕ) → d < length ranks → from_bytes (set ranks d n) ≡ (λ (x : ℕ). cond (eqb x d) n (from_bytes ranks x))
-rank_set ranks d n l =
-    fun_ext (λ (x : ℕ).
-    ⊎_elim (λ (e : x ≡ d). rw e (get_or-set_same ranks d n 0 l ∙ ap (λ (b : Bool). cond b n (get_or ranks d 0)) (sym (eq-eqb d d refl))))
-    (λ (ne : x ≡ d → ⊥). get_or-set_other ranks d x n 0 ne ∙ ap (λ (b : Bool). cond b n (get_or ranks x 0)) (sym (ne_eqb x d ne))) (cases_eq x d))
+rank_set ranks d n l = grind (arith, common_steps)
 
 -- the front of a plan's bytes
 front_of : (plan : List ℕ) (n : ℕ) → n ≤ length plan → take n plan ≡ map (from_bytes plan) (range_with_len 0 n)
@@ -51,17 +47,12 @@ front_of plan n l = fill_by_all (from_bytes plan) (take n plan) n 0 (omega (arit
 
 -- a plan that is written in front of a buffer
 pub written_plan : (plan buffer front : List ℕ) (n : ℕ) → n ≤ length plan → front ≡ take (n - 0) plan → front ++ drop (n - 0) buffer ≡ written n (from_bytes plan) buffer
-written_plan plan buffer front n l e =
-    let k = sub-zero n in
-    ap₂ (λ (xs ys : List ℕ). xs ++ ys) (e ∙ ap (λ (j : ℕ). take j plan) k ∙ front_of plan n l) (ap (λ (j : ℕ). drop j buffer) k)
+written_plan plan buffer front n l e = grind (arith, common_steps, front_of)
 
 -- a held best is reported
 pub best_reported : {C : Type 0} (m : Meaning C) (a : Account C) (n : ℕ) (plan buffer front : List ℕ) (b : Best C) → n ≡ length a.book.decisions → n ≤ length plan → n ≤ length buffer
     → a.best ≡ Some b → b.plan ≡ from_bytes plan → front ≡ take (n - 0) plan → reported a.state (Some b.cost) (front ++ drop (n - 0) buffer) ≡ answer m a (best buffer)
-best_reported m a n plan buffer front b e l room held p f =
-    ap (reported a.state (Some b.cost)) (written_plan plan buffer front n l f ∙ ap (λ (q : ℕ → ℕ). written n q buffer) (sym p))
-    ∙ ap₂ (λ (k : ℕ) (o : Option (Best _)). report a.state k buffer o) e (sym held)
-    ∙ (accepts m a (best buffer) (long_buffer (length a.book.decisions) (length buffer) (omega arith))).0
+best_reported m a n plan buffer front b e l room held p f = grind (arith, common_steps, written_plan, accepts, long_buffer)
 
 module _ {C : Type 0} (m : Meaning C) (a : Account C) where
   settled_next : (b : Account C) → b.state ≡ Settled → advance_in m b b.state ≡ b
@@ -79,15 +70,7 @@ module _ {C : Type 0} (m : Meaning C) (a : Account C) where
 
   -- an open planner makes one more
   pub open_more : (k : ℕ) (b : Account C) → b ≡ advance m k a → is_open b.state ≡ true → k ≡ made m k a → (step m b ≡ advance m (k + 1) a) × (k + 1 ≡ made m (k + 1) a)
-  open_more k b e o count =
-      let now-open = ap (λ (x : Account C). x.state) (sym e) ∙ by_state b.state o in (
-        ap (step m) e ∙ sym (ap (advance_in m (advance m k a)) now-open) ∙ ap (λ (n : ℕ). advance m n a) (sym (add-one k)),
-        ap (λ (n : ℕ). n + 1) count ∙ sym (ap (λ (s : State). made m k a + one_if_open s) now-open) ∙ ap (λ (n : ℕ). made m n a) (sym (add-one k)),
-      )
-    where
-      by_state : (s : State) → is_open s ≡ true → s ≡ Open
-      by_state Open h = refl
-      by_state Settled h = cc
+  open_more k b e o count = grind (arith, common_steps)
 
   -- where it is not open, the budget does not matter
   pub not_open : (k n : ℕ) (b : Account C) → b ≡ advance m k a → is_open b.state ≡ false → k ≤ n → (b ≡ advance m n a) × (made m k a ≡ made m n a)
@@ -103,9 +86,7 @@ module _ {C : Type 0} (m : Meaning C) (a : Account C) where
 
   -- the whole run, once it stops
   pub ran_whole : (budget k : ℕ) (b : Account C) → budget ≤ 1000000 → (b ≡ advance m budget a) × (k ≡ made m budget a) → (ran k b.state ≡ answer m a (run budget)) × (b ≡ after m a (run budget))
-  ran_whole budget k b low (e, count) =
-      let (told, left) = accepts m a (run budget) (ap (λ (t : Bool). when t BudgetTooLarge) (le-ltb 1000000 budget low)) in
-      (ap₂ (λ (n : ℕ) (x : Account C). ran n x.state) count e ∙ told, e ∙ left)
+  ran_whole budget k b low (e, count) = grind (arith, common_steps)
 
   -- a call that a ground refuses
   pub refuses : (c : Call) (e : Refusal) → refusal a c ≡ Some e → (refused e ≡ answer m a c) × (a ≡ after m a c)
@@ -113,9 +94,7 @@ module _ {C : Type 0} (m : Meaning C) (a : Account C) where
 
   module _ (rule : Rule) (row : Row) (ds : List Decision) (rows : List Row) (same : row ≡ rule.row) (book : ds ≡ a.book.decisions) (table : rows ≡ held a.book row.kind) where
     grounds : refusal a (add rule) ≡ or_else (row_refusal ds row) (when (leb 256 (length rows)) TableFull)
-    grounds =
-        ap₂ (λ (xs : List Decision) (r : Row). or_else (row_refusal xs r) (when (leb 256 (length (held a.book r.kind))) TableFull)) (sym book) (sym same)
-        ∙ ap (λ (rs : List Row). or_else (row_refusal ds row) (when (leb 256 (length rs)) TableFull)) (sym table)
+    grounds = grind (arith, common_steps)
 
     -- no ground holds against a rule
     pub rule_accepted : row_refusal ds row ≡ None → length rows < 256 → refusal a (add rule) ≡ None
@@ -127,12 +106,8 @@ module _ {C : Type 0} (m : Meaning C) (a : Account C) where
 
     -- what an accepted rule leaves
     pub rule_left : (x : Account C) → row_refusal ds row ≡ None → length rows < 256 → x ≡ added m a row.kind row → (done ≡ answer m a (add rule)) × (x ≡ after m a (add rule))
-    rule_left x h l e =
-        let (told, left) = accepts m a (add rule) (rule_accepted h l) in
-        (told, e ∙ ap (λ (r : Row). added m a r.kind r) same ∙ left)
+    rule_left x h l e = grind (arith, common_steps)
 
   -- what a rule's going leaves
   pub place_left : (k : Kind) (n : ℕ) (x : Account C) → n < length (held a.book k) → x ≡ withdrawn m a k n → (done ≡ answer m a (withdraw k n)) × (x ≡ after m a (withdraw k n))
-  place_left k n x l e =
-      let (told, left) = accepts m a (withdraw k n) (ap (λ (b : Bool). when b NoSuchRule) (lt-leb (length (held a.book k)) n l)) in
-      (told, e ∙ left)
+  place_left k n x l e = grind (arith, common_steps)

@@ -1,13 +1,12 @@
 -- The decision that is picked, of a list of those that wait.
-use Rattle.std.proofs.Common.{◌≡◌, ℕ, zero, suc, ◌<◌, ◌≤◌, Bool, true, false, cond, eqb, ltb, List, [], ◌∷◌, filter, length, MatchOption, Some, None, Option, ◌⊎◌, inl, inr, sym, refl, ap, ◌∙◌, subst, ap₂, arith}
+use Rattle.std.proofs.lemmas.Grind.{common_steps}
+use Rattle.std.proofs.Common.{◌≡◌, ℕ, zero, suc, ◌<◌, ◌≤◌, Bool, true, false, cond, ltb, List, [], ◌∷◌, filter, length, MatchOption, Some, None, Option, sym, refl, ap, ◌∙◌, subst, ap₂, arith}
 use Rattle.std.specs.Borrow.{Bor}
 use Rattle.std.specs.Fn.{CalledAt}
 use Rattle.std.specs.Iterator.{Drains, DrainsIf, KeyTurn, PicksMinByKey}
 use Rattle.std.specs.List.{FoldsTo, fold, range_with_len}
 use Rattle.std.specs.Option.{option_map}
 use Rattle.std.specs.Ordering.{min_by_ordering, nat_cmp}
-use Rattle.std.specs.declared.cmp.Ordering.TheVariants.{Less, Equal, Greater}
-use Rattle.std.proofs.lemmas.Bool.{cases_order, eq-eqb, le-ltb, lt-ltb, ne_eqb}
 use Rattle.std.proofs.lemmas.Iterator.{YieldsList, items_from_drains}
 use Rattle.std.proofs.lemmas.List.{map-id}
 use Rattle.std.proofs.lemmas.List.Elements.{filter-append}
@@ -22,15 +21,7 @@ use Rattle.planner.specs.Books.{IsDomain}
 
 -- the lesser of two is the second only where it is below the first
 lesser : {A : Type 0} (a b : ℕ) (x z : A) → min_by_ordering (nat_cmp a b) x z ≡ cond (ltb b a) z x
-lesser {A} a b x z = by (cases_order a b)
-  where
-    at : Bool → Bool → A
-    at s t = min_by_ordering (cond s Less (cond t Equal Greater)) x z
-
-    by : (a ≡ b) ⊎ ((a < b) ⊎ (b < a)) → at (ltb a b) (eqb a b) ≡ cond (ltb b a) z x
-    by (inl e) = ap₂ at (le-ltb a b (omega (arith, e))) (eq-eqb a b e) ∙ sym (ap (λ (t : Bool). cond t z x) (le-ltb b a (omega (arith, e))))
-    by (inr (inl l)) = ap (λ (s : Bool). at s (eqb a b)) (lt-ltb a b l) ∙ sym (ap (λ (t : Bool). cond t z x) (le-ltb b a (omega (arith, l))))
-    by (inr (inr g)) = ap₂ at (le-ltb a b (omega (arith, g))) (ne_eqb a b (λ (e : a ≡ b). omega (arith, e, g))) ∙ sym (ap (λ (t : Bool). cond t z x) (lt-ltb b a g))
+lesser {A} a b x z = grind (arith, common_steps)
 
 module _ (ranks : ℕ → ℕ) where
   -- a waiting decision more

@@ -1,11 +1,10 @@
 -- The account after a change of rules.
-use Rattle.std.proofs.Common.{◌≡◌, ℕ, Bool, true, false, cond, not, ◌&&◌, ◌||◌, [], ◌∷◌, ◌++◌, Some, None, Option, sym, refl, ap, ◌∙◌, subst, ap₂}
-use mathlib.Core.Path.{fun_ext}
+use Rattle.std.proofs.lemmas.Grind.{common_steps}
+use Rattle.std.proofs.Common.{◌≡◌, ℕ, Bool, false, not, ◌||◌, [], ◌∷◌, ◌++◌, Option, sym, ap, ◌∙◌, subst, arith}
 use Rattle.std.specs.List.{remove}
 use Rattle.account.specs.Accounts.{Account, Best, Exclusion}
-use Rattle.account.specs.Changes.{added, best_meets, held, if_lawful, reopened, repriced, unless_met, with_rules, withdrawn}
+use Rattle.account.specs.Changes.{added, best_meets, held, if_lawful, reopened, repriced, with_rules, withdrawn}
 use Rattle.measure.specs.Meaning.{Meaning}
-use Rattle.rules.specs.Conditions.{met}
 use Rattle.rules.specs.Plans.{Book}
 use Rattle.rules.specs.declared.row.Kind.{Kind}
 use Rattle.rules.specs.declared.row.Kind.TheVariants.{Forbid, Activate, Price}
@@ -16,22 +15,6 @@ use Rattle.planner.specs.Bests.{unless_told}
 abbrev pub with_book : {C : Type 0} → Account C → Book → Account C
 with_book a b = record { book = b; ranks = a.ranks; trail = a.trail; exclusions = a.exclusions; best = a.best; state = a.state }
 
-unless_met_lem : {C : Type 0} (o : Option (Best C)) (r : Row) → unless_told (best_meets o r) o ≡ unless_met r o
-unless_met_lem None r = refl
-unless_met_lem (Some b) r = go (met b.plan r)
-  where
-    go : (t : Bool) → unless_told t (Some b) ≡ cond t None (Some b)
-    go true = refl
-    go false = refl
-
-not_both : (x y : Bool) → (not x || not y) ≡ not (x && y)
-not_both true y = refl
-not_both false y = refl
-
--- what is kept of the exclusions where the best meets a rule
-keeps_resting : (t u : Bool) → t ≡ u → ◌≡◌ {A = Exclusion → Bool} (λ e. not t || not e.rests) (λ e. not (u && e.rests))
-keeps_resting t u h = fun_ext (λ (e : Exclusion). not_both t e.rests ∙ ap (λ (x : Bool). not (x && e.rests)) h)
-
 -- the arms of the changes, once the kind is known
 module _ {C : Type 0} (m : Meaning C) (a x : Account C) (b : Book) where
   one : Book → Option (Best C) → (Exclusion → Bool) → Account C
@@ -40,10 +23,7 @@ module _ {C : Type 0} (m : Meaning C) (a x : Account C) (b : Book) where
   pub forbid_added : (r : Row) (k : Kind) (t : Bool) → k ≡ Forbid → b ≡ with_rules a.book k (held a.book k ++ r ∷ []) → t ≡ best_meets a.best r
       → x ≡ reopened (with_book a b) b (unless_told t a.best) (λ e. not t || not e.rests) → x ≡ added m a k r
   unfolding added one
-  forbid_added r k t e f g h =
-      subst (λ (j : Kind). b ≡ with_rules a.book j (held a.book j ++ r ∷ []) → x ≡ added m a j r) (sym e)
-      (λ q. h ∙ ap₂ (λ (y : Book) (o : Option (Best C)). one y o (λ e. not t || not e.rests)) q (ap (λ (s : Bool). unless_told s a.best) g ∙ unless_met_lem a.best r)
-      ∙ ap (one (with_rules a.book Forbid (a.book.forbids ++ r ∷ [])) (unless_met r a.best)) (keeps_resting t (best_meets a.best r) g)) f
+  forbid_added r k t e f g h = grind (arith, common_steps)
 
   pub activate_added : (r : Row) (k : Kind) → k ≡ Activate → b ≡ with_rules a.book k (held a.book k ++ r ∷ []) → x ≡ reopened (with_book a b) b (if_lawful b a.best) (λ e. false) → x ≡ added m a k r
   unfolding added one
@@ -53,10 +33,7 @@ module _ {C : Type 0} (m : Meaning C) (a x : Account C) (b : Book) where
   pub price_added : (r : Row) (k : Kind) (t : Bool) → k ≡ Price → b ≡ with_rules a.book k (held a.book k ++ r ∷ []) → t ≡ best_meets a.best r
       → x ≡ reopened (with_book a b) b (repriced m b.prices a.best) (λ e. not t || not e.rests) → x ≡ added m a k r
   unfolding added one
-  price_added r k t e f g h =
-      subst (λ (j : Kind). b ≡ with_rules a.book j (held a.book j ++ r ∷ []) → x ≡ added m a j r) (sym e)
-      (λ q. h ∙ ap (λ (y : Book). one y (repriced m y.prices a.best) (λ e. not t || not e.rests)) q
-      ∙ ap (one (with_rules a.book Price (a.book.prices ++ r ∷ [])) (repriced m (a.book.prices ++ r ∷ []) a.best)) (keeps_resting t (best_meets a.best r) g)) f
+  price_added r k t e f g h = grind (arith, common_steps)
 
   pub forbid_withdrawn : (k : Kind) (n : ℕ) → k ≡ Forbid → b ≡ with_rules a.book k (remove (held a.book k) n) → x ≡ reopened (with_book a b) b a.best (λ e. false) → x ≡ withdrawn m a k n
   unfolding withdrawn one

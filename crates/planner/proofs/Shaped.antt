@@ -1,14 +1,13 @@
 -- What the shape of a table's rows tells.
-use Rattle.std.proofs.Common.{◌≡◌, ℕ, ◌≤◌, true, not, ◌&&◌, ◌||◌, ltb, leb, List, [], ◌∷◌, length, None, refl, ap, ◌∙◌, arith}
-use Rattle.std.proofs.lemmas.Bool.{and_from, and_parts, le-leb, lt-ltb, ltb-true, not-false}
+use Rattle.std.proofs.lemmas.Grind.{common_steps}
+use Rattle.std.proofs.Common.{◌≡◌, ℕ, ◌≤◌, true, ◌&&◌, ltb, leb, List, [], ◌∷◌, length, None, refl, arith}
+use Rattle.std.proofs.lemmas.Bool.{and_from, and_parts, lt-ltb, ltb-true}
 use Rattle.rules.proofs.Grounds.{when_none, or_else_none}
-use Rattle.rules.specs.Compose.{ascends, is_activate}
+use Rattle.rules.specs.Compose.{ascends}
 use Rattle.rules.specs.Conditions.{condition}
-use Rattle.rules.specs.Judging.{known_decisions, known_values, row_refusal}
-use Rattle.rules.specs.Refusals.{when}
+use Rattle.rules.specs.Judging.{known_decisions, row_refusal}
 use Rattle.rules.specs.declared.decision.Decision.{Decision}
 use Rattle.rules.specs.declared.literal.Literal.{Literal}
-use Rattle.rules.specs.declared.refusal.Refusal.TheVariants.{UnknownDecision, UnknownValue}
 use Rattle.rules.specs.declared.row.Row.{Row}
 use Rattle.rules.specs.declared.rule.Rule.{Rule}
 use Rattle.scans.specs.Known.{Known}
@@ -32,13 +31,4 @@ known_more n (k ∷ ls) l h =
 -- an accepted rule has the shape of a table's rows
 pub rule_shaped : (rule : Rule) (row : Row) (ds : List Decision) → row ≡ rule.row → length ds ≤ 64 → row_refusal ds row ≡ None → shaped row ≡ true
 unfolding shaped
-rule_shaped rule row ds e few h =
-    let tests = known_decisions (length ds) (condition row) && (not (is_activate row.kind) || ltb row.target (length ds)) in
-    let first = (or_else_none (when (not tests) UnknownDecision) (when (not (known_values ds (condition row))) UnknownValue) h).0 in
-    let known = (and_parts (known_decisions (length ds) (condition row)) (not (is_activate row.kind) || ltb row.target (length ds)) (not-false tests (when_none (not tests) UnknownDecision first))).0 in
-    let count = ap (λ (r : Row). r.count) e in
-    let low = le-leb 1 row.count (omega (arith, rule.some)) in
-    let high = le-leb row.count 4 (omega (arith, rule.few)) in
-    let order = ap (λ (r : Row). ascends (condition r)) e ∙ rule.ascending in
-    and_from (leb 1 row.count && leb row.count 4 && ascends (condition row)) (known_decisions 64 (condition row))
-    (and_from (leb 1 row.count && leb row.count 4) (ascends (condition row)) (and_from (leb 1 row.count) (leb row.count 4) low high) order) (known_more (length ds) (condition row) few known)
+rule_shaped rule row ds e few h = grind (arith, common_steps, or_else_none, when_none, known_more)

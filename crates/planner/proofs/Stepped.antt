@@ -1,14 +1,14 @@
 -- The account after the parts of a step.
-use Rattle.std.proofs.Common.{◌≡◌, ℕ, zero, suc, ◌<◌, ◌≤◌, Bool, true, false, cond, not, ◌&&◌, ◌||◌, eqb, ltb, List, [], ◌∷◌, length, Some, None, Option, sym, refl, ap, ◌∙◌, subst, ap₂, arith}
+use Rattle.std.proofs.lemmas.Grind.{common_steps}
+use Rattle.std.proofs.Common.{◌≡◌, ℕ, zero, suc, ◌<◌, ◌≤◌, Bool, true, false, cond, not, ◌&&◌, ◌||◌, eqb, List, [], ◌∷◌, length, Some, None, Option, refl, ap, ◌∙◌, arith}
 use mathlib.Core.Path.{fun_ext}
-use Rattle.std.proofs.lemmas.Bool.{and_parts, ltb-false, not-true}
 use Rattle.std.specs.List.{AllByRecursion}
 use Rattle.account.proofs.Finds.{Picked, picked}
-use Rattle.account.specs.Accounts.{Account, Entry, Exclusion, Best, chosen, either, has_any}
-use Rattle.account.specs.Steps.{Retreat, any_rests, blame, blamed, champion, choose, conclude, enter, extend, follow, is_free, is_value, pick, price_reason, reasons, relearn, retreat, smallest_free, step, step_at, support, test, tested, tested_at, unless_left, waits, with_exclusions}
+use Rattle.account.specs.Accounts.{Account, Entry, Exclusion, Best, chosen}
+use Rattle.account.specs.Steps.{Retreat, any_rests, blame, blamed, champion, choose, conclude, extend, follow, is_free, is_value, pick, price_reason, reasons, retreat, smallest_free, step, step_at, support, test, tested, tested_at, unless_left, waits}
 use Rattle.measure.specs.Meaning.{Meaning}
 use Rattle.rules.specs.Conditions.{Plan}
-use Rattle.rules.specs.Plans.{Book, Set, cost, enables, on_at, size_at}
+use Rattle.rules.specs.Plans.{Book, Set, cost, size_at}
 use Rattle.rules.specs.Refusals.{or_else, when}
 use Rattle.tables.proofs.Entering.{Enters, proper_parts}
 use Rattle.tables.proofs.Listed.{meets_any}
@@ -16,15 +16,6 @@ use Rattle.tables.specs.Entries.{in_list, proper}
 use Rattle.tables.specs.Excluded.{unless_meets}
 use Rattle.planner.specs.Bests.{cost_held}
 use Rattle.planner.specs.Trials.{or_tried, tried_to, try_plan}
-
--- the culprit of a retreat from a proper trail
-culprit_of : (e : Entry) (o : Option Retreat) (r : Retreat) → follow e o ≡ Some r → (q : Retreat) × (o ≡ Some q) × (r.culprit ≡ q.culprit)
-culprit_of e None r h = absurd (let z : ◌≡◌ {A = ℕ} 0 1 = cc in omega arith)
-culprit_of e (Some q) r h = (q, refl, go (has_any e.support q.left) h)
-  where
-    go : (b : Bool) → Some (cond b (record { culprit = q.culprit; left = e.decision ∷ q.left; stays = q.stays }) (record { culprit = q.culprit; left = q.left; stays = e ∷ q.stays })) ≡ Some r → r.culprit ≡ q.culprit
-    go true k = let x : r ≡ record { culprit = q.culprit; left = e.decision ∷ q.left; stays = q.stays } = cc in ap (λ (y : Retreat). y.culprit) x
-    go false k = let x : r ≡ record { culprit = q.culprit; left = q.left; stays = e ∷ q.stays } = cc in ap (λ (y : Retreat). y.culprit) x
 
 -- a decision below 64, with a value 1 to 16
 abbrev pub InRange : Entry → Type 0
@@ -40,12 +31,8 @@ culprit_in_range s (e ∷ es) r p h = go (s e.decision) h (culprit_in_range s es
 
     go : (b : Bool) → cond b (Some (record { culprit = e; left = e.decision ∷ []; stays = es })) (follow e (retreat s es)) ≡ Some r
         → ((q : Retreat) → proper es ≡ true → retreat s es ≡ Some q → InRange q.culprit) → InRange r.culprit
-    go true k later =
-        let x : r ≡ record { culprit = e; left = e.decision ∷ []; stays = es } = cc in
-        subst (λ (y : Entry). InRange y) (sym (ap (λ (y : Retreat). y.culprit) x)) (parts.0.known, parts.0.some, parts.0.few)
-    go false k later =
-        let (q, e', same) = culprit_of e (retreat s es) r k in
-        subst (λ (y : Entry). InRange y) (sym same) (later q parts.1 e')
+    go true k later = grind (arith, common_steps)
+    go false k later = grind (arith, common_steps)
 
 -- what a set of bits forgets is what the list of decisions does
 forget_left : (t : Set) (ds : List ℕ) → t ≡ (λ (x : ℕ). in_list x ds) → AllByRecursion (λ (d : ℕ). d < 64) ds → (o : Option Exclusion) → unless_meets t o ≡ unless_left ds o
@@ -59,15 +46,7 @@ module _ {C : Type 0} (a : Account C) (s : Set) (rests : Bool) where
       → forgot ≡ (λ d v. unless_meets gone (a.exclusions d v))
       → ex ≡ (λ x w. cond (eqb x c.decision && eqb w c.value) (Some (record { reason = rest; rests = rests })) (forgot x w))
       → record { book = a.book; ranks = a.ranks; trail = es; exclusions = ex; best = a.best; state = a.state } ≡ blame a s rests
-  retreated es c left gone rest forgot ex h g low u f k =
-      let account : (ℕ → ℕ → Option Exclusion) → Account C =
-      λ x. record { book = a.book; ranks = a.ranks; trail = es; exclusions = x; best = a.best; state = a.state } in
-      ap account (k ∙ fun_ext (λ (x : ℕ). fun_ext (λ (w : ℕ). cell x w))) ∙ ap (blamed a s rests) (sym h)
-    where
-      cell : (x w : ℕ) → cond (eqb x c.decision && eqb w c.value) (Some (record { reason = rest; rests = rests })) (forgot x w) ≡ relearn a.exclusions s rests (record { culprit = c; left = left; stays = es }) x w
-      cell x w =
-          ap₂ (λ (t : Set) (o : Option Exclusion). cond (eqb x c.decision && eqb w c.value) (Some (record { reason = t; rests = rests })) o) u
-          (ap (λ (y : ℕ → ℕ → Option Exclusion). y x w) f ∙ forget_left gone left g low (a.exclusions x w))
+  retreated es c left gone rest forgot ex h g low u f k = grind (arith, common_steps, forget_left)
 
 -- the test that an account makes, by the best's cost alone
 test_is : {C : Type 0} (m : Meaning C) (b : Book) (best : Option (Best C)) (d : ℕ) (p : Plan) → try_plan m b (cost_held best) d p ≡ test m b best d p
@@ -103,44 +82,25 @@ module _ {C : Type 0} (m : Meaning C) (a : Account C) (d : ℕ) where
       (tried : ex ≡ tried_to m a.book best p a.exclusions d n) where
     all_tested : ex ≡ tested m a d
     unfolding size
-    all_tested =
-        let one : Option C → Plan → ℕ → ℕ → ℕ → Option Exclusion = λ c q k. tried_to m a.book c q a.exclusions d k in
-        tried ∙ ap₂ (λ (c : Option C) (q : Plan). one c q n) cost plan ∙ ap (one (cost_held a.best) (chosen a.trail)) sized ∙ tested_is
+    all_tested = grind (arith, common_steps, tested_is)
 
     -- the picked decision enters
     pub entered : (v : ℕ) (s : Set) (es : List Entry) → s ≡ support a.book p d → Some v ≡ smallest_free (ex d) n → es ≡ (record { decision = d; value = v; support = s } ∷ a.trail)
         → record { book = a.book; ranks = a.ranks; trail = es; exclusions = ex; best = a.best; state = a.state } ≡ extend m a d
     unfolding extend
-    entered v s es u h e =
-        let account : List Entry → (ℕ → ℕ → Option Exclusion) → Account C =
-        λ t x. record { book = a.book; ranks = a.ranks; trail = t; exclusions = x; best = a.best; state = a.state } in
-        let made = e ∙ ap (λ (t : Set). record { decision = d; value = v; support = t } ∷ a.trail) (u ∙ ap (λ (q : Plan). support a.book q d) plan) in
-        ap₂ account made all_tested
-        ∙ ap (enter (with_exclusions a (tested m a d)) d) (h ∙ ap₂ (λ (x : ℕ → ℕ → Option Exclusion) (k : ℕ). smallest_free (x d) k) all_tested sized)
+    entered v s es u h e = grind (arith, common_steps, all_tested)
 
     -- the step is a dead end
     pub stuck : (s r blamed : Set) (rests : Bool) → s ≡ support a.book p d → None ≡ smallest_free (ex d) n → r ≡ reasons (ex d) n → rests ≡ any_rests (ex d) n → blamed ≡ (λ (x : ℕ). r x || s x)
         → blame (record { book = a.book; ranks = a.ranks; trail = a.trail; exclusions = ex; best = a.best; state = a.state }) blamed rests ≡ extend m a d
     unfolding extend
-    stuck s r blamed rests u h e f k =
-        let whole : (ℕ → ℕ → Option Exclusion) → Set → Bool → Account C =
-        λ x t b. blame (record { book = a.book; ranks = a.ranks; trail = a.trail; exclusions = x; best = a.best; state = a.state }) t b in
-        let reason = e ∙ ap₂ (λ (x : ℕ → ℕ → Option Exclusion) (j : ℕ). reasons (x d) j) all_tested sized in
-        let set = k ∙ ap₂ (λ (x y : Set). either x y) reason (u ∙ ap (λ (q : Plan). support a.book q d) plan) in
-        let rest = f ∙ ap₂ (λ (x : ℕ → ℕ → Option Exclusion) (j : ℕ). any_rests (x d) j) all_tested sized in
-        ap₂ (λ (x : ℕ → ℕ → Option Exclusion) (t : Set). whole x t rests) all_tested set
-        ∙ ap (whole (tested m a d) (either (reasons (tested m a d d) (size_at a.book.decisions d)) (support a.book (chosen a.trail) d))) rest
-        ∙ ap (enter (with_exclusions a (tested m a d)) d) (h ∙ ap₂ (λ (x : ℕ → ℕ → Option Exclusion) (j : ℕ). smallest_free (x d) j) all_tested sized)
+    stuck s r blamed rests u h e f k = grind (arith, common_steps, all_tested)
 
   -- a complete trail
   pub concluded : (p : Plan) (b : Best C) (s : Set) → p ≡ chosen a.trail → b ≡ champion m a.best (record { plan = p; cost = cost m a.book.prices p }) → s ≡ price_reason m a.book b.cost p
       → blame (record { book = a.book; ranks = a.ranks; trail = a.trail; exclusions = a.exclusions; best = Some b; state = a.state }) s true ≡ conclude m a
   unfolding conclude
-  concluded p b s e f g =
-      let whole : Best C → Set → Account C =
-      λ x t. blame (record { book = a.book; ranks = a.ranks; trail = a.trail; exclusions = a.exclusions; best = Some x; state = a.state }) t true in
-      let best = f ∙ ap (λ (q : Plan). champion m a.best (record { plan = q; cost = cost m a.book.prices q })) e in
-      ap₂ whole best (g ∙ ap₂ (λ (x : Best C) (q : Plan). price_reason m a.book x.cost q) best e)
+  concluded p b s e f g = grind (arith, common_steps)
 
 module _ {C : Type 0} (m : Meaning C) (a : Account C) (p : Plan) (o : Option ℕ) (plan : p ≡ chosen a.trail) (picks : o ≡ pick a.ranks (waits a.book p) (length a.book.decisions)) where
   picked_now : o ≡ pick a.ranks (waits a.book (chosen a.trail)) (length a.book.decisions)
@@ -153,7 +113,4 @@ module _ {C : Type 0} (m : Meaning C) (a : Account C) (p : Plan) (o : Option ℕ
 
   -- a picked decision is known, and off the trail
   pub picked_idle : (d : ℕ) → o ≡ Some d → (d < length a.book.decisions) × (chosen a.trail d ≡ 0)
-  picked_idle d h =
-      let found = subst (Picked (waits a.book (chosen a.trail)) (length a.book.decisions)) (sym picked_now ∙ h) (picked a.ranks (waits a.book (chosen a.trail)) (length a.book.decisions)) in
-      let off = (and_parts (not (ltb 0 (chosen a.trail d))) (on_at a.book.decisions d || enables a.book.activates (chosen a.trail) d) found.1).0 in
-      (found.0, omega (arith, ltb-false 0 (chosen a.trail d) (not-true (ltb 0 (chosen a.trail d)) off)))
+  picked_idle d h = grind (arith, common_steps, Picked, picked_now, picked)

@@ -1,9 +1,10 @@
 -- Where a text is cut at a byte.
-use Rattle.std.proofs.Common.{◌≡◌, ℕ, suc, ◌+◌, ◌-◌, ◌<◌, ◌≤◌, true, false, cond, eqb, ltb, leb, Bool, List, [], ◌∷◌, length, take, drop, Some, None, Option, Bor, MatchOption, option_map, sym, refl, ap, ◌∙◌, subst, ⊎_elim, add-sub_cancel, arith}
+use Rattle.std.proofs.lemmas.Grind.{common_steps}
+use Rattle.std.proofs.Common.{◌≡◌, ℕ, suc, ◌+◌, ◌-◌, ◌<◌, ◌≤◌, true, false, cond, eqb, ltb, leb, List, [], ◌∷◌, length, take, drop, Some, None, Option, Bor, MatchOption, option_map, sym, refl, ap, ◌∙◌, add-sub_cancel, arith}
 use Rattle.std.specs.List.{position, position_or_len}
 use Rattle.std.proofs.lemmas.List.Recursion.{is_position_or_len}
-use Rattle.std.proofs.lemmas.List.{length-drop, length-take-le, drop-drop, take_all}
-use Rattle.std.proofs.lemmas.Bool.{cond-true, cond-false, cases_lt, le-leb, le-ltb, lt-leb, lt-ltb}
+use Rattle.std.proofs.lemmas.List.{length-take-le, drop-drop}
+use Rattle.std.proofs.lemmas.Bool.{cond-true, cond-false, le-leb, lt-leb}
 use Rattle.reading.specs.Cursors.{left_at}
 use Rattle.reading.specs.Pieces.{pieces, longer, before, halves, is_nil}
 
@@ -17,34 +18,15 @@ around xs None = None
 around xs (Some n) = Some (take n xs, drop (n + 1) xs)
 
 pub halves_are : (b : ℕ) (xs : List ℕ) (o : Option ℕ) → o ≡ position (λ x. eqb x b) xs → around xs o ≡ halves b xs
-halves_are b xs o e =
-    ap (around xs) e ∙ parted (ltb (position_or_len (λ x. eqb x b) xs) (length xs)) _
-    ∙ ap (λ (k : ℕ). cond (ltb k (length xs)) (Some (take k xs, drop (k + 1) xs)) None) (sym (place_is b xs))
-  where
-    parted : (t : Bool) (k : ℕ) → around xs (cond t (Some k) None) ≡ cond t (Some (take k xs, drop (k + 1) xs)) None
-    parted true k = refl
-    parted false k = refl
+halves_are b xs o e = grind (arith, common_steps, place_is)
 
 before_within : (b : ℕ) (xs : List ℕ) → before b xs ≤ length xs
 before_within b [] = omega arith
 before_within b (x ∷ xs) =
     elim (eqb x b) as (λ t. cond t 0 (suc (before b xs)) ≤ suc (length xs)) [ true ↦ omega arith | false ↦ omega (arith, before_within b xs) ]
 
--- the first half, or the whole text if it lacks the byte
-abbrev first_or : List ℕ → Option (List ℕ × List ℕ) → List ℕ
-first_or whole None = whole
-first_or whole (Some p) = p.0
-
 pub first_half : (b : ℕ) (whole first : List ℕ) (o : Option (Bor (List ℕ) × Bor (List ℕ))) → option_map (λ p. (p.0.now, p.1.now)) o ≡ halves b whole → MatchOption o (first ≡ whole) (λ p. first ≡ p.0.now) → first ≡ take (before b whole) whole
-first_half b whole first o e h =
-    chosen o h ∙ ap (first_or whole) e
-    ∙ ⊎_elim (λ (has : before b whole < length whole). ap (first_or whole) (cond-true _ _ None (lt-ltb (before b whole) (length whole) has)))
-    (λ (lacks : length whole ≤ before b whole). ap (first_or whole) (cond-false _ _ None (le-ltb (before b whole) (length whole) lacks)) ∙ sym (take_all (before b whole) whole lacks))
-    (cases_lt (before b whole) (length whole))
-  where
-    chosen : (o : Option (Bor (List ℕ) × Bor (List ℕ))) → MatchOption o (first ≡ whole) (λ p. first ≡ p.0.now) → first ≡ first_or whole (option_map {U = List ℕ × List ℕ} (λ p. (p.0.now, p.1.now)) o)
-    chosen None h = h
-    chosen (Some p) h = h
+first_half b whole first o e h = grind (arith, common_steps)
 
 -- the first piece, and what is cut after it
 cut_first : (b : ℕ) (xs : List ℕ) → before b xs < length xs → pieces b xs ≡ take (before b xs) xs ∷ pieces b (drop (suc (before b xs)) xs)
@@ -75,32 +57,20 @@ left_within b xs p h = cond-true (leb p (length xs)) _ [] (le-leb p (length xs) 
 few_pieces : (b : ℕ) (xs : List ℕ) → length (pieces b xs) ≤ length xs + 1
 unfolding pieces
 few_pieces b [] = omega arith
-few_pieces b (x ∷ xs) =
-    elim (eqb x b) as (λ t. length (cond t ([] ∷ pieces b xs) (longer x (pieces b xs))) ≤ suc (length xs) + 1)
-    [ true ↦ omega (arith, few_pieces b xs) | false ↦ omega (arith, long (pieces b xs), few_pieces b xs) ]
-  where
-    long : (ps : List (List ℕ)) → length (longer x ps) ≤ length ps + 1
-    long [] = omega arith
-    long (p ∷ ps) = omega arith
+few_pieces b (x ∷ xs) = grind (arith, common_steps, few_pieces b xs)
 
 pub few_left : (b : ℕ) (xs : List ℕ) (p : ℕ) → length (left_at b xs p) ≤ length xs + 1
-few_left b xs p =
-    ⊎_elim (λ (past : length xs < p). omega (arith, ap length (left_past b xs p past)))
-    (λ (within : p ≤ length xs). omega (arith, ap length (left_within b xs p within), few_pieces b (drop p xs), length-drop p xs)) (cases_lt (length xs) p)
+few_left b xs p = grind (arith, common_steps, left_past, left_within, few_pieces)
 
 -- there is always a piece
 pub pieces_some : (b : ℕ) (xs : List ℕ) → is_nil (pieces b xs) ≡ false
 unfolding pieces
 pieces_some b [] = refl
-pieces_some b (x ∷ xs) =
-    elim (eqb x b) as (λ t. is_nil (cond t ([] ∷ pieces b xs) (longer x (pieces b xs))) ≡ false)
-    [ true ↦ refl | false ↦ elim (pieces b xs) as (λ ps. is_nil (longer x ps) ≡ false) [ [] ↦ refl | p ∷ ps ↦ refl ] ]
+pieces_some b (x ∷ xs) = grind (arith, common_steps)
 
 -- so none is to come just when the end is passed
 pub passed : (b : ℕ) (xs : List ℕ) (p : ℕ) → ltb (length xs) p ≡ is_nil (left_at b xs p)
-passed b xs p =
-    ⊎_elim (λ (past : length xs < p). lt-ltb (length xs) p past ∙ sym (ap is_nil (left_past b xs p past)))
-    (λ (within : p ≤ length xs). le-ltb (length xs) p within ∙ sym (ap is_nil (left_within b xs p within) ∙ pieces_some b (drop p xs))) (cases_lt (length xs) p)
+passed b xs p = grind (arith, common_steps, left_past, left_within, pieces_some)
 
 -- behind the next n bytes and one more
 behind : (b : ℕ) (xs : List ℕ) (p n : ℕ) → p + n < length xs → pieces b (drop (suc n) (drop p xs)) ≡ left_at b xs (p + n + 1)
@@ -110,17 +80,7 @@ behind b xs p n h =
 
 -- a cursor at p gives the bytes before the next b, and goes on behind it
 take_left : (b : ℕ) (xs : List ℕ) (p n : ℕ) → p ≤ length xs → n ≡ before b (drop p xs) → left_at b xs p ≡ take n (drop p xs) ∷ left_at b xs (p + n + 1)
-take_left b xs p n h e =
-    left_within b xs p h
-    ∙ ⊎_elim
-    (λ (more : n < length (drop p xs)).
-    subst (λ (k : ℕ). pieces b (drop p xs) ≡ take k (drop p xs) ∷ pieces b (drop (suc k) (drop p xs))) (sym e) (cut_first b (drop p xs) (omega (arith, e)))
-    ∙ ap (λ (ps : List (List ℕ)). take n (drop p xs) ∷ ps) (behind b xs p n (omega (arith, length-drop p xs))))
-    (λ (last : length (drop p xs) ≤ n).
-    cut_last b (drop p xs) (omega (arith, e, before_within b (drop p xs)))
-    ∙ ap (λ (q : List ℕ). q ∷ []) (sym (take_all n (drop p xs) last))
-    ∙ ap (λ (ps : List (List ℕ)). take n (drop p xs) ∷ ps) (sym (left_past b xs (p + n + 1) (omega (arith, length-drop p xs)))))
-    (cases_lt n (length (drop p xs)))
+take_left b xs p n h e = grind (arith, common_steps, left_within, cut_first, behind, cut_last, before_within, left_past)
 
 -- the same of the bytes themselves, and where they stand in the text
 module _ (b : ℕ) (xs : List ℕ) (p : ℕ) (whole first : List ℕ) (in_text : p ≤ length xs) (rest : whole ≡ drop p xs) (cut : first ≡ take (before b whole) whole) where

@@ -1,5 +1,6 @@
 -- Which texts are numbers.
-use Rattle.std.proofs.Common.{◌≡◌, ℕ, ◌+◌, ◌^◌, ◌<◌, ◌≤◌, Bool, true, false, cond, not, ◌&&◌, eqb, ltb, leb, List, [], ◌∷◌, length, get_or, Some, None, Ok, Err, Option, Result, decimal, sym, refl, ap, ◌∙◌, ⊎_elim, arith, rules}
+use Rattle.std.proofs.lemmas.Grind.{common_steps}
+use Rattle.std.proofs.Common.{◌≡◌, ℕ, ◌+◌, ◌^◌, ◌<◌, ◌≤◌, Bool, true, false, cond, not, ◌&&◌, ltb, leb, List, [], ◌∷◌, length, get_or, Some, None, Ok, Err, Option, Result, decimal, sym, refl, ap, ◌∙◌, ⊎_elim, arith, rules}
 use Rattle.std.specs.Bool.{then_some}
 use Rattle.std.specs.Char.{is_ascii_digit}
 use Rattle.std.specs.List.{list_all}
@@ -7,7 +8,7 @@ use Rattle.std.specs.Result.{result_ok}
 use Rattle.std.specs.Str.{IsUtf8, all_ascii_digits}
 use Rattle.std.specs.Str.Parse.{ParsesUnsigned}
 use Rattle.std.proofs.lemmas.Str.{IsUtf8-from_ascii}
-use Rattle.std.proofs.lemmas.Bool.{and_from, and_cases, and_parts, cases_Bool, cases_lt, ne_eqb, leb-true, ltb-true, and_left, and_right, cond-false, cond-true, le-leb, le-ltb, lt-leb, lt-ltb, not_from_false, not-true, eqb-false, ltb-false}
+use Rattle.std.proofs.lemmas.Bool.{and_from, and_parts, cases_lt, ne_eqb, ltb-true, and_left, and_right, cond-false, cond-true, le-leb, le-ltb, lt-leb, lt-ltb, not_from_false, not-true}
 use Rattle.std.proofs.lemmas.Fmt.{IsAscii-from_digits, decimal_digit, decimal_nonempty, decimal-digits_value, digits_decimal, first_decimal, digits_value-decimal}
 use Rattle.std.proofs.lemmas.Str.Parse.{IsNumeralModel, numerals_by_fold, parse_digits}
 use Rattle.reading.specs.Numbers.{is_number, leading_zero, number_up_to, value, value_from}
@@ -60,10 +61,7 @@ capped_is {E} limit ds (Ok n) small is h =
     then_some_is : (t : Bool) (n : ℕ) → then_some t n ≡ cond t (Some n) None
     then_some_is true n = refl
     then_some_is false n = refl
-capped_is limit ds (Err e) small is h =
-    none_if_large limit ds
-    (⊎_elim (λ (fits : value ds < 2 ^ 32). absurd (parse_digits own 32 ds (Err e) h (all_digits ds is) (ltb-true 0 (length ds) (and_parts (ltb 0 (length ds)) _ is).0, fits)))
-    (λ (large : 2 ^ 32 ≤ value ds). omega arith) (cases_lt (value ds) (2 ^ 32)))
+capped_is limit ds (Err e) small is h = grind (arith, common_steps, none_if_large, own, all_digits)
 
 plain_decimal : (n : ℕ) → n < 2 ^ 64 → leading_zero (decimal n) ≡ false
 plain_decimal n h =
@@ -84,9 +82,7 @@ reads_decimal limit n le h =
 
 -- a text that has no leading zero and begins with a zero is that zero
 alone : (ds : List ℕ) → 0 < length ds → leading_zero ds ≡ false → get_or ds 0 0 ≡ 48 → length ds ≡ 1
-alone ds some plain first =
-    ⊎_elim (λ (short : ltb 1 (length ds) ≡ false). omega (arith, ltb-false 1 (length ds) short))
-    (λ (other : eqb (get_or ds 0 0) 48 ≡ false). absurd (eqb-false (get_or ds 0 0) 48 other first)) (and_cases _ _ plain)
+alone ds some plain first = grind (arith, common_steps)
 
 -- a text that is a number is the decimal of its value
 decimal_from_number : (ds : List ℕ) → is_number ds ≡ true → value ds < 2 ^ 64 → ds ≡ decimal (value ds)
@@ -98,15 +94,4 @@ decimal_from_number ds is small =
 
 pub decimal_from_read : (limit n : ℕ) (ds : List ℕ) → limit < 2 ^ 64 → number_up_to limit ds ≡ Some n → (ds ≡ decimal n) × (n ≤ limit)
 unfolding number_up_to
-decimal_from_read limit n ds small e =
-    ⊎_elim
-    (λ (is : (is_number ds && leb (value ds) limit) ≡ true).
-    let s : Some (value ds) ≡ Some n = sym (cond-true _ (Some (value ds)) None is) ∙ e in
-    let v : value ds ≡ n = cc in
-    let p = and_parts (is_number ds) _ is in
-    let le : value ds ≤ limit = leb-true (value ds) limit p.1 in
-    (decimal_from_number ds p.0 (omega arith) ∙ ap decimal v, omega arith))
-    (λ (no_number : (is_number ds && leb (value ds) limit) ≡ false).
-    let s : None ≡ Some n = sym (cond-false _ (Some (value ds)) None no_number) ∙ e in
-    cc)
-    (cases_Bool (is_number ds && leb (value ds) limit))
+decimal_from_read limit n ds small e = grind (arith, common_steps, decimal_from_number)

@@ -1,8 +1,8 @@
 -- Texts made of fields and lines, one behind another.
-use Rattle.std.proofs.Common.{◌≡◌, ℕ, suc, ◌+◌, ◌<◌, ◌≤◌, Bool, true, false, cond, ltb, List, [], ◌∷◌, ◌++◌, map, length, get_or, take, sym, refl, ap, ◌∙◌, append_assoc, add-zero, zero-add, arith}
+use Rattle.std.proofs.lemmas.Grind.{common_steps}
+use Rattle.std.proofs.Common.{◌≡◌, ℕ, ◌+◌, ◌<◌, ◌≤◌, cond, ltb, List, [], ◌∷◌, ◌++◌, map, length, get_or, take, sym, refl, ap, ◌∙◌, append_assoc, add-zero, arith}
 use Rattle.std.specs.List.{flat_map, fold}
-use Rattle.std.proofs.lemmas.Bool.{le-ltb, lt-ltb}
-use Rattle.std.proofs.lemmas.List.{length-take-le, map-append, take_more}
+use Rattle.std.proofs.lemmas.List.{map-append}
 use Rattle.std.proofs.lemmas.List.Sums.{fold-append}
 use Rattle.measure.specs.declared.price.Price.{Price}
 use Rattle.rules.specs.declared.decision.Decision.{Decision}
@@ -37,40 +37,25 @@ of_choice d v = cond (ltb 0 v) (choice_line d v ∷ []) []
 
 choices_push : (d : ℕ) (vs : List ℕ) (v : ℕ) → choice_lines d (vs ++ v ∷ []) ≡ choice_lines d vs ++ of_choice (d + length vs) v
 choices_push d [] v = ap (λ (k : ℕ). of_choice k v) (sym (add-zero d))
-choices_push d (u ∷ us) v =
-    ap (λ (ls : List (List ℕ)). cond (ltb 0 u) (choice_line d u ∷ ls) ls)
-    (choices_push (d + 1) us v ∙ ap (λ (k : ℕ). choice_lines (d + 1) us ++ of_choice k v) (let e : d + 1 + length us ≡ d + suc (length us) = omega arith in e))
-    ∙ choice_first (ltb 0 u) (choice_line d u) (choice_lines (d + 1) us) (of_choice (d + suc (length us)) v)
-  where
-    choice_first : (b : Bool) (k : List ℕ) (ks ls : List (List ℕ)) → cond b (k ∷ (ks ++ ls)) (ks ++ ls) ≡ cond b (k ∷ ks) ks ++ ls
-    choice_first true k ks ls = refl
-    choice_first false k ks ls = refl
+choices_push d (u ∷ us) v = grind (arith, common_steps, choices_push (d + 1) us v)
 
 -- the lines of one decision more
 chosen_push : (vs : List ℕ) (v : ℕ) → ended (choice_lines 0 (vs ++ v ∷ [])) ≡ ended (choice_lines 0 vs) ++ ended (of_choice (length vs) v)
-chosen_push vs v =
-    ap ended (choices_push 0 vs v ∙ ap (λ (k : ℕ). choice_lines 0 vs ++ of_choice k v) (zero-add (length vs)))
-    ∙ ended_append (choice_lines 0 vs) (of_choice (length vs) v)
+chosen_push vs v = grind (arith, common_steps, choices_push, ended_append)
 
 -- so a decision more puts its line, or nothing if it is idle
 module _ {S : Type 0} (f : S → ℕ → S) (s : S) (plan : List ℕ) (i : ℕ) (h : i < length plan) where
   more : ended (choice_lines 0 (take (i + 1) plan)) ≡ ended (choice_lines 0 (take i plan)) ++ ended (of_choice i (get_or plan i 0))
-  more =
-      ap (λ (vs : List ℕ). ended (choice_lines 0 vs)) (take_more plan i 0 h) ∙ chosen_push (take i plan) (get_or plan i 0)
-      ∙ ap (λ (k : ℕ). ended (choice_lines 0 (take i plan)) ++ ended (of_choice k (get_or plan i 0))) (length-take-le i plan (omega arith))
+  more = grind (arith, common_steps, chosen_push)
 
   put_more : fold f s (ended (choice_lines 0 (take (i + 1) plan))) ≡ fold f (fold f s (ended (choice_lines 0 (take i plan)))) (ended (of_choice i (get_or plan i 0)))
   put_more = ap (fold f s) more ∙ fold-append f s (ended (choice_lines 0 (take i plan))) (ended (of_choice i (get_or plan i 0)))
 
   pub chosen_more : 0 < get_or plan i 0 → fold f s (ended (choice_lines 0 (take (i + 1) plan))) ≡ fold f (fold f s (ended (choice_lines 0 (take i plan)))) (choice_line i (get_or plan i 0) ++ 10 ∷ [])
-  chosen_more some =
-      put_more
-      ∙ ap (λ (t : Bool). fold f (fold f s (ended (choice_lines 0 (take i plan)))) (ended (cond t (choice_line i (get_or plan i 0) ∷ []) []))) (lt-ltb 0 (get_or plan i 0) some)
+  chosen_more some = grind (arith, common_steps, put_more)
 
   pub idle_more : get_or plan i 0 ≤ 0 → fold f s (ended (choice_lines 0 (take (i + 1) plan))) ≡ fold f s (ended (choice_lines 0 (take i plan)))
-  idle_more none =
-      put_more
-      ∙ ap (λ (t : Bool). fold f (fold f s (ended (choice_lines 0 (take i plan)))) (ended (cond t (choice_line i (get_or plan i 0) ∷ []) []))) (le-ltb 0 (get_or plan i 0) none)
+  idle_more none = grind (arith, common_steps, put_more)
 
 -- the lines of rules, behind those of decisions, kind by kind
 module _ {S : Type 0} (f : S → ℕ → S) (s a b c d : S) (ds : List Decision) (fs ts ps : List Row) where

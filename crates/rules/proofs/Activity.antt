@@ -1,39 +1,22 @@
 -- The active decisions that are worked out are the least closed set.
-use Rattle.std.proofs.Common.{◌≡◌, ℕ, zero, suc, ◌+◌, ◌<◌, ◌≤◌, Bool, true, false, cond, ◌&&◌, ◌||◌, eqb, ◌⊎◌, List, [], ◌∷◌, length, sym, refl, ap, ◌∙◌, subst, inl, inr, ⊎_elim, zero-le, arith}
+use Rattle.std.proofs.lemmas.Grind.{common_steps}
+use Rattle.std.proofs.Common.{◌≡◌, ℕ, zero, suc, ◌+◌, ◌<◌, ◌≤◌, Bool, true, false, cond, ◌&&◌, ◌||◌, eqb, ◌⊎◌, List, [], ◌∷◌, length, refl, subst, inl, inr, ⊎_elim, zero-le, arith}
 use mathlib.Core.Path.{fun_ext}
-use lib.ListN.{get_or-eq_default}
-use Rattle.std.proofs.lemmas.Bool.{and_parts, and_from, or_cases, or_left, or_right, eqb-true, eq-eqb, cases_eq, cases_lt, false≢true, both_ways}
+use Rattle.std.proofs.lemmas.Bool.{and_parts, and_from, or_cases, or_left, or_right, eqb-true, eq-eqb, false≢true, both_ways}
 use Rattle.std.proofs.ByRecursion.{All-weaker}
 use Rattle.std.specs.List.{AllByRecursion}
 use Rattle.rules.specs.Conditions.{Plan, has, meets, met, condition}
-use Rattle.rules.specs.Plans.{Book, Set, within, Closed, Active, enables, grown, rounds, active, on_at, absent}
-use Rattle.rules.specs.declared.decision.Decision.{Decision}
+use Rattle.rules.specs.Plans.{Book, Set, within, Closed, Active, enables, grown, rounds, active, on_at}
 use Rattle.rules.specs.declared.literal.Literal.{Literal}
 use Rattle.rules.specs.declared.row.Row.{Row}
-use Rattle.rules.proofs.Conditions.{has_value, has_from}
 
 -- one set lies in another
 abbrev Inside : Set → Set → Type 0
 Inside s t = (d : ℕ) → s d ≡ true → t d ≡ true
 
-within_true : (s : Set) (p : Plan) (d : ℕ) → s d ≡ true → within s p d ≡ p d
-within_true s p d h = rw h refl
-
-within_chosen : (s : Set) (p : Plan) (d : ℕ) → 0 < within s p d → s d ≡ true
-within_chosen s p d h = go (s d) refl h
-  where
-    go : (b : Bool) → s d ≡ b → 0 < cond b (p d) 0 → s d ≡ true
-    go true e k = e
-    go false e k = absurd (omega arith)
-
 -- a larger set meets what a smaller one does
 has_more : (s t : Set) (p : Plan) (l : Literal) → Inside s t → has (within s p) l ≡ true → has (within t p) l ≡ true
-has_more s t p l sub h =
-    let (pos, val) = has_value (within s p) l h in
-    let ins = within_chosen s p l.decision pos in
-    let ws = within_true s p l.decision ins in
-    let wt = within_true t p l.decision (sub l.decision ins) in
-    has_from (within t p) l (omega (arith, ws, wt)) (wt ∙ sym ws ∙ val)
+has_more s t p l sub h = grind (arith, common_steps)
 
 meets_more : (s t : Set) (p : Plan) (ls : List Literal) → Inside s t → meets (within s p) ls ≡ true → meets (within t p) ls ≡ true
 meets_more s t p [] sub h = refl
@@ -85,23 +68,7 @@ count_most s (suc n) = omega (arith, count_most s n, one_or_none (s n))
 agree_or_more : (s t : Set) → Inside s t → (n : ℕ) → (((d : ℕ) → d < n → t d ≡ true → s d ≡ true) × (count s n ≤ count t n)) ⊎ (count s n < count t n)
 unfolding count
 agree_or_more s t sub zero = inl ((λ d h k. absurd (omega arith)), zero-le)
-agree_or_more s t sub (suc n) = go (s n) (t n) refl refl (agree_or_more s t sub n)
-  where
-    at_last : (d : ℕ) → d < suc n → (d ≡ n → ⊥) → d < n
-    at_last d h ne = omega arith
-
-    kept : ((d : ℕ) → d < n → t d ≡ true → s d ≡ true) → (t n ≡ true → s n ≡ true) → (d : ℕ) → d < suc n → t d ≡ true → s d ≡ true
-    kept old new d h k = ⊎_elim (λ (e : d ≡ n). rw e (new (rw (← e) k))) (λ (ne : d ≡ n → ⊥). old d (at_last d h ne) k) (cases_eq d n)
-
-    go : (x y : Bool) → s n ≡ x → t n ≡ y → (((d : ℕ) → d < n → t d ≡ true → s d ≡ true) × (count s n ≤ count t n)) ⊎ (count s n < count t n)
-        → (((d : ℕ) → d < suc n → t d ≡ true → s d ≡ true) × (count s n + cond x 1 0 ≤ count t n + cond y 1 0)) ⊎ (count s n + cond x 1 0 < count t n + cond y 1 0)
-    go true true e f (inl (old, le)) = inl (kept old (λ k. e), omega arith)
-    go true true e f (inr lt) = inr (omega arith)
-    go true false e f h = absurd (both_ways (t n) f (sub n e))
-    go false true e f (inl (old, le)) = inr (omega arith)
-    go false true e f (inr lt) = inr (omega arith)
-    go false false e f (inl (old, le)) = inl (kept old (λ k. absurd (both_ways (t n) f k)), omega arith)
-    go false false e f (inr lt) = inr (omega arith)
+agree_or_more s t sub (suc n) = grind (arith, common_steps, agree_or_more s t sub n)
 
 -- every activate rule's target is one of the first n decisions
 abbrev pub Targets : ℕ → List Row → Type 0
@@ -130,22 +97,11 @@ module _ (rs : List Row) (p : Plan) (n : ℕ) (known : Targets n rs) where
 
   stable_or_many : (s : Set) (k : ℕ) → (grown rs p (rounds k rs p s) ≡ rounds k rs p s) ⊎ (k ≤ count (rounds k rs p s) n)
   stable_or_many s zero = inr zero-le
-  stable_or_many s (suc k) =
-      ⊎_elim (λ (e : grown rs p (rounds k rs p s) ≡ rounds k rs p s). inl (ap (grown rs p) e))
-      (λ (h : k ≤ count (rounds k rs p s) n).
-      ⊎_elim (λ (e : grown rs p (rounds k rs p s) ≡ rounds k rs p s). inl (ap (grown rs p) e))
-      (λ (l : count (rounds k rs p s) n < count (grown rs p (rounds k rs p s)) n). inr (omega arith)) (stable_or_more (rounds k rs p s)))
-      (stable_or_many s k)
+  stable_or_many s (suc k) = grind (arith, common_steps, stable_or_many s k, stable_or_more)
 
   -- n rounds are enough
   pub rounds_stable : (s : Set) → grown rs p (rounds n rs p s) ≡ rounds n rs p s
-  rounds_stable s =
-      ⊎_elim (λ e. e)
-      (λ (h : n ≤ count (rounds n rs p s) n).
-      ⊎_elim (λ e. e)
-      (λ (l : count (rounds n rs p s) n < count (grown rs p (rounds n rs p s)) n). absurd (omega (arith, count_most (grown rs p (rounds n rs p s)) n)))
-      (stable_or_more (rounds n rs p s)))
-      (stable_or_many s n)
+  rounds_stable s = grind (arith, common_steps, count_most, stable_or_more, stable_or_many)
 
 rounds_more : (rs : List Row) (p : Plan) (s : Set) (n d : ℕ) → s d ≡ true → rounds n rs p s d ≡ true
 rounds_more rs p s zero d h = h
@@ -178,10 +134,7 @@ active_complete b p known d h = h (active b p) (active_closed b p known)
 
 -- a decision that is marked on is one of those that there are
 pub on_known : (b : Book) (d : ℕ) → on_at b.decisions d ≡ true → d < length b.decisions
-on_known b d h =
-    ⊎_elim (λ (l : d < length b.decisions). l)
-    (λ (g : length b.decisions ≤ d). absurd (false≢true (ap (λ (x : Decision). x.on) (sym (get_or-eq_default b.decisions absent g)) ∙ h)))
-    (cases_lt d (length b.decisions))
+on_known b d h = grind (arith, common_steps)
 
 rounds_known : (b : Book) (p : Plan) (n d : ℕ) → Targets (length b.decisions) b.activates → rounds n b.activates p (on_at b.decisions) d ≡ true → d < length b.decisions
 rounds_known b p zero d known h = on_known b d h

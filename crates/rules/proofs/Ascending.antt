@@ -1,6 +1,7 @@
 -- Pairs ascend where the decision of each is below that of the next.
+use Rattle.std.proofs.lemmas.Grind.{common_steps}
 use Rattle.std.proofs.Common.{◌≡◌, ℕ, zero, suc, ◌+◌, ◌<◌, ◌≤◌, Bool, true, false, ltb, leb, List, [], ◌∷◌, length, get_or, sym, refl, ap, ◌∙◌, add-one, arith}
-use Rattle.std.proofs.lemmas.Bool.{and_from, and_left, and_right, ltb-true, ltb-false, le-leb, lt-leb}
+use Rattle.std.proofs.lemmas.Bool.{and_from, and_right, ltb-true, le-leb}
 use Rattle.std.specs.List.{IsAllAdjacentAnswer}
 use Rattle.rules.specs.Compose.{ascends, ascends_from}
 use Rattle.rules.specs.declared.literal.Literal.{Literal}
@@ -9,17 +10,13 @@ use Rattle.rules.specs.declared.literal.Literal.{Literal}
 rise : (n : ℕ) (l : Literal) (ls : List Literal) → n ≤ l.decision
     → ((k : ℕ) (d : Literal) → suc k < suc (length ls) → ltb (get_or (l ∷ ls) k d).decision (get_or (l ∷ ls) (suc k) d).decision ≡ true) → ascends_from n (l ∷ ls) ≡ true
 rise n l [] low all = and_from (leb n l.decision) true (le-leb n l.decision low) refl
-rise n l (m ∷ ms) low all =
-    and_from (leb n l.decision) (ascends_from (l.decision + 1) (m ∷ ms)) (le-leb n l.decision low)
-    (rise (l.decision + 1) m ms (omega (arith, ltb-true l.decision m.decision (all 0 l (omega arith)))) (λ k d h. all (suc k) d (omega arith)))
+rise n l (m ∷ ms) low all = grind (arith, common_steps, rise (l.decision + 1) m ms (omega (arith, ltb-true l.decision m.decision (all 0 l (omega arith)))) (λ k d h. all (suc k) d (omega arith)))
 
 -- some pair is not
 fall : (n : ℕ) (ls : List Literal) (k : ℕ) (d : Literal) → suc k < length ls → ltb (get_or ls k d).decision (get_or ls (suc k) d).decision ≡ false → ascends_from n ls ≡ false
 fall n [] k d h e = absurd (omega arith)
 fall n (l ∷ []) k d h e = absurd (omega arith)
-fall n (l ∷ m ∷ ms) zero d h e =
-    and_right (leb n l.decision) (ascends_from (l.decision + 1) (m ∷ ms))
-    (and_left (leb (l.decision + 1) m.decision) (ascends_from (m.decision + 1) ms) (lt-leb (l.decision + 1) m.decision (omega (arith, ltb-false l.decision m.decision e))))
+fall n (l ∷ m ∷ ms) zero d h e = grind (arith, common_steps)
 fall n (l ∷ m ∷ ms) (suc k) d h e = and_right (leb n l.decision) (ascends_from (l.decision + 1) (m ∷ ms)) (fall (l.decision + 1) (m ∷ ms) k d (omega arith) e)
 
 at_next : (ls : List Literal) (k : ℕ) (d : Literal) (b : Bool) → b ≡ ltb (get_or ls k d).decision (get_or ls (k + 1) d).decision → ltb (get_or ls k d).decision (get_or ls (suc k) d).decision ≡ b

@@ -1,5 +1,6 @@
 -- The rows of one kind, and what those of price rules cost.
-use Rattle.std.proofs.Common.{◌≡◌, Bool, true, false, cond, ◌&&◌, List, [], ◌∷◌, filter, sym, refl, ap, ◌∙◌}
+use Rattle.std.proofs.lemmas.Grind.{common_steps}
+use Rattle.std.proofs.Common.{◌≡◌, Bool, true, false, cond, ◌&&◌, List, [], ◌∷◌, filter, sym, refl, ap, ◌∙◌, arith}
 use Rattle.std.specs.List.{fold}
 use Rattle.measure.specs.Meaning.{Meaning}
 use Rattle.rules.specs.Compose.{is_forbid, is_activate, is_price}
@@ -33,6 +34,4 @@ module _ {C : Type 0} (m : Meaning C) (associative : (a b c : C) → m.joins (m.
           ≡ m.joins c (cost m (cond a (r ∷ prices rs) (prices rs)) p)
       go false b e later = later c
       go true false e later = later c ∙ sym (ap (λ (x : Bool). m.joins c (cond x (m.joins (m.reads r.price) (cost m (prices rs) p)) (cost m (prices rs) p))) e)
-      go true true e later =
-          later joined ∙ associative c (m.reads r.price) (cost m (prices rs) p)
-          ∙ sym (ap (λ (x : Bool). m.joins c (cond x (m.joins (m.reads r.price) (cost m (prices rs) p)) (cost m (prices rs) p))) e)
+      go true true e later = grind (arith, common_steps)

@@ -1,29 +1,21 @@
 -- Parts that compose accepts make a row of the shape that every rule has.
-use Rattle.std.proofs.Common.{◌≡◌, ℕ, zero, suc, ◌-◌, ◌≤◌, true, false, not, ◌&&◌, ltb, leb, List, ◌++◌, length, drop, replicate, None, refl, ap, ◌∙◌, arith, length-append}
+use Rattle.std.proofs.lemmas.Grind.{common_steps}
+use Rattle.std.proofs.Common.{◌≡◌, ℕ, zero, suc, ◌-◌, ◌≤◌, true, false, ◌&&◌, ltb, List, ◌++◌, length, drop, replicate, None, refl, ap, ◌∙◌, arith, length-append}
 use lib.ListN.{length-replicate}
 use lib.Seq.{take-append-le, take-length, drop-append_seam}
-use Rattle.std.proofs.lemmas.Bool.{and_parts, not-false, leb-true, le-leb, ltb-false}
+use Rattle.std.proofs.lemmas.Bool.{le-leb, ltb-false}
 use Rattle.measure.specs.declared.price.Price.{Price}
 use Rattle.rules.specs.Compose.{ascends, compose_refusal, composed, blank, blanks, is_exact, is_price}
 use Rattle.rules.specs.Conditions.{condition}
-use Rattle.rules.specs.Refusals.{when, or_else}
 use Rattle.rules.specs.declared.literal.Literal.{Literal}
-use Rattle.rules.specs.declared.refusal.Refusal.TheVariants.{PairCount, NotAscending, CentsTooLarge}
 use Rattle.rules.specs.declared.row.Kind.{Kind}
 use Rattle.rules.specs.declared.row.Kind.TheVariants.{Forbid, Activate, Price as Priced}
 use Rattle.rules.specs.declared.row.Row.{Row}
-use Rattle.rules.proofs.Grounds.{when_none, or_else_none}
 
 -- the pairs of accepted parts are one to four, and ascend; the cents of a price rule are in range
 pub accepted_parts : (k : Kind) (ps : List Literal) (price : Price) → compose_refusal k ps price ≡ None
     → (1 ≤ length ps) × (length ps ≤ 4) × (ascends ps ≡ true) × ((is_price k && ltb 1000000000 price.cents) ≡ false)
-accepted_parts k ps price h =
-    let few = leb 1 (length ps) && leb (length ps) 4 in
-    let dear = is_price k && ltb 1000000000 price.cents in
-    let (count, rest) = or_else_none (when (not few) PairCount) (or_else (when (not (ascends ps)) NotAscending) (when dear CentsTooLarge)) h in
-    let (order, cents) = or_else_none (when (not (ascends ps)) NotAscending) (when dear CentsTooLarge) rest in
-    let (low, high) = and_parts (leb 1 (length ps)) (leb (length ps) 4) (not-false few (when_none (not few) PairCount count)) in
-    (leb-true 1 (length ps) low, leb-true (length ps) 4 high, not-false (ascends ps) (when_none (not (ascends ps)) NotAscending order), when_none dear CentsTooLarge cents)
+accepted_parts k ps price h = grind (arith, common_steps)
 
 -- the condition of the row is the pairs
 pub composed_condition : (k : Kind) (ps : List Literal) (t : ℕ) (price : Price) → condition (composed k ps t price) ≡ ps
@@ -50,9 +42,4 @@ composed_exact Priced ps t price low tier cents =
 -- a row made of accepted parts has the shape of a rule
 pub accepted_shape : (r : Row) (k : Kind) (ps : List Literal) (t : ℕ) (price : Price) → r ≡ composed k ps t price → t ≤ 255 → price.tier ≤ 255 → compose_refusal k ps price ≡ None
     → (1 ≤ r.count) × (r.count ≤ 4) × (length r.pairs ≡ 4) × (ascends (condition r) ≡ true) × (is_exact r ≡ true)
-accepted_shape r k ps t price e low tier h =
-    let (some, few, order, cents) = accepted_parts k ps price h in
-    let many = ap (λ (x : Row). x.count) e in
-    let pairs = ap (λ (x : Row). length x.pairs) e in
-    let cond = ap condition e in
-    (omega arith, omega arith, pairs ∙ composed_full k ps t price few, ap ascends (cond ∙ composed_condition k ps t price) ∙ order, ap is_exact e ∙ composed_exact k ps t price low tier cents)
+accepted_shape r k ps t price e low tier h = grind (arith, common_steps, accepted_parts, composed_full, composed_condition, composed_exact)

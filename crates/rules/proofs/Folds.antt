@@ -1,10 +1,8 @@
 -- What a fold over an iterator gives.
-use Rattle.std.proofs.Common.{◌≡◌, ℕ, Bool, false, ◌&&◌, ◌||◌, eqb, ltb, List, [], ◌∷◌, ◌++◌, Option, sym, ap, ◌∙◌, ap₂}
-use mathlib.Core.Path.{fun_ext}
-use mathlib.Core.Bool.{or-false}
+use Rattle.std.proofs.lemmas.Grind.{common_steps}
+use Rattle.std.proofs.Common.{◌≡◌, ℕ, false, ◌&&◌, ◌||◌, eqb, ltb, List, [], ◌∷◌, ◌++◌, Option, arith}
 use Rattle.std.proofs.lemmas.Fn.{fold_over}
 use Rattle.std.proofs.lemmas.Iterator.{YieldsList}
-use Rattle.std.proofs.lemmas.List.Folds.{list_any-append}
 use Rattle.std.specs.Fn.{Called}
 use Rattle.std.specs.Iterator.{Drains}
 use Rattle.std.specs.List.{FoldsTo, list_any}
@@ -34,7 +32,4 @@ gathered_by_fold {v = v} ran chain of none one =
     kept_by_fold ran _ chain (λ ys b. members b ≡ gathered of ys) none (λ ys b x c f' before call. let o = one b x c f' call in (more ys (v x) (members b) (members c) before o.0, o.1))
   where
     more : (ys : List _) (y : _) (s after : Set) → s ≡ gathered of ys → after ≡ (λ d. s d || (eqb d (of y) && ltb (of y) 64)) → after ≡ gathered of (ys ++ y ∷ [])
-    more ys y s after before new =
-        new
-        ∙ fun_ext (λ (d : ℕ). ap₂ (λ (p q : Bool). p || q) (ap (λ (t : Set). t d) before) (sym (or-false (eqb d (of y) && ltb (of y) 64)))
-        ∙ sym (list_any-append (λ x. eqb d (of x) && ltb (of x) 64) ys (y ∷ [])))
+    more ys y s after before new = grind (arith, common_steps)

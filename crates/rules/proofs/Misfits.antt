@@ -1,17 +1,15 @@
 -- How a plan mistreats decisions, by a set of active ones.
-use Rattle.std.proofs.Common.{◌≡◌, ℕ, zero, suc, ◌<◌, ◌≤◌, Bool, true, false, cond, ◌&&◌, eqb, ltb, leb, List, length, take, is_ok, Some, None, Ok, Err, Result, sym, refl, ap, ◌∙◌, subst, ⊎_elim, take_all, arith}
+use Rattle.std.proofs.lemmas.Grind.{common_steps}
+use Rattle.std.proofs.Common.{◌≡◌, ℕ, zero, suc, ◌<◌, ◌≤◌, Bool, true, false, ◌&&◌, ltb, leb, List, length, take, is_ok, Some, None, Ok, Err, Result, sym, ap, ◌∙◌, subst, ⊎_elim, take_all, arith}
 use mathlib.Core.Bool.{beq}
-use Rattle.std.proofs.lemmas.Bool.{and_left, and_right, and_from, cases_eq, eqb-true, ltb-true, lt-ltb, le-ltb, lt-leb, le-leb}
+use Rattle.std.proofs.lemmas.Bool.{and_left, and_right, cases_eq}
 use Rattle.rules.specs.Conditions.{Plan}
 use Rattle.rules.specs.Plans.{Book, Set, active, all_below, fits, size_at}
-use Rattle.rules.specs.Refusals.{when}
 use Rattle.rules.specs.Searches.{Chooses, FirstMisfit, misfit, misfit_at}
 use Rattle.rules.specs.declared.decision.Decision.{Decision}
 use Rattle.rules.specs.declared.row.Row.{Row}
 use Rattle.rules.specs.declared.verdict.Breach.{Breach}
-use Rattle.rules.specs.declared.verdict.Breach.TheVariants.{NotActive, NotChosen, OutOfRange}
-use Rattle.rules.proofs.Lawfulness.{below_all, both_true}
-use Rattle.rules.proofs.Verdicts.{misfit_none}
+use Rattle.rules.proofs.Lawfulness.{below_all}
 
 -- where there are at most 64 decisions and bytes, none is left out
 pub chosen_whole : (ds : List Decision) (rs : List Row) (bytes : List ℕ) (r : Result (Unit {0}) Breach) → length ds ≤ 64 → length bytes ≤ 64 → Chooses (take 64 ds) rs (take 64 bytes) r → Chooses ds rs bytes r
@@ -36,23 +34,12 @@ below_fails t (suc n) i l h =
 
 -- a decision that is no misfit passes its test
 misfit_passes : (d size v : ℕ) (a : Bool) → misfit d size a v ≡ None → (beq (ltb 0 v) a && leb v size) ≡ true
-misfit_passes d size v a h =
-    let (only, all, range) = misfit_none d size v a h in
-    and_from (beq (ltb 0 v) a) (leb v size) (both_true (ltb 0 v) a (λ e. only (ltb-true 0 v e)) (λ e. lt-ltb 0 v (all e))) (le-leb v size range)
+misfit_passes d size v a h = grind (arith, common_steps)
 
 -- a misfit fails the test of its decision
 misfit_fails : (d size v : ℕ) (a : Bool) (x : Breach) → misfit d size a v ≡ Some x → (beq (ltb 0 v) a && leb v size) ≡ false
-misfit_fails d size v false x h = go (ltb 0 v) h
-  where
-    go : (b : Bool) → when b (NotActive d) ≡ Some x → (beq b false && leb v size) ≡ false
-    go true e = refl
-    go false e = cc
-misfit_fails d size v true x h = go (eqb v 0) refl (ltb size v) refl h
-  where
-    go : (b : Bool) → eqb v 0 ≡ b → (c : Bool) → ltb size v ≡ c → cond b (Some (NotChosen d)) (when c (OutOfRange d)) ≡ Some x → (beq (ltb 0 v) true && leb v size) ≡ false
-    go true e c f k = and_left (beq (ltb 0 v) true) (leb v size) (ap (λ (b : Bool). beq b true) (le-ltb 0 v (omega (arith, eqb-true v 0 e))))
-    go false e true f k = and_right (beq (ltb 0 v) true) (leb v size) (lt-leb v size (ltb-true size v f))
-    go false e false f k = cc
+misfit_fails d size v false x h = grind (arith, common_steps)
+misfit_fails d size v true x h = grind (arith, common_steps)
 
 -- a plan that mistreats no decision passes the test of each
 pub chosen_fits : (b : Book) (p : Plan) (r : Result (Unit {0}) Breach) → FirstMisfit b.decisions (active b p) p (length b.decisions) r → is_ok r ≡ all_below (fits b p) (length b.decisions)

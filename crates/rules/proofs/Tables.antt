@@ -1,8 +1,8 @@
 -- Tables of 64 places that a loop fills by a function of the place.
+use Rattle.std.proofs.lemmas.Grind.{common_steps}
 use Rattle.std.proofs.Common.{◌≡◌, ℕ, zero, suc, ◌+◌, ◌-◌, ◌<◌, ◌≤◌, ◌++◌, List, length, replicate, take, get_or, sym, ◌∙◌, subst, ⊎_elim, arith}
 use mathlib.Core.Path.{fun_ext}
 use lib.ListN.{get_or-eq_default}
-use Rattle.std.proofs.lemmas.List.{get_or-append_right, get_or-replicate, get_or-take, get_or_append_left, length-take}
 use Rattle.std.proofs.lemmas.Bool.{cases_eq, cases_lt}
 use Rattle.std.specs.Array.{IsFromFnResult, IsFromFnResultFrom}
 use Rattle.std.specs.Fn.{Mut, Called}
@@ -18,10 +18,7 @@ filled_all xs f d n l (long, all) past =
 
 -- a list cut or filled up with blanks to a length, at each of its places
 pub filled_up : {X : Type 0} (n : ℕ) (xs : List X) (b : X) (k : ℕ) → k < n → get_or (take n xs ++ replicate (n - length xs) b) k b ≡ get_or xs k b
-filled_up n xs b k l =
-    let taken = length-take n xs in
-    ⊎_elim (λ (h : k < length xs). get_or_append_left (take n xs) _ b k (omega (arith, taken)) ∙ get_or-take n xs k b l)
-    (λ (h : length xs ≤ k). get_or-append_right (take n xs) (replicate (n - length xs) b) (length xs) k b (omega (arith, taken)) h ∙ get_or-replicate (n - length xs) (k - length xs) b b (omega arith) ∙ sym (get_or-eq_default xs b h)) (cases_lt k (length xs))
+filled_up n xs b k l = grind (arith, common_steps)
 
 -- what `array::from_fn` makes of a closure that no call changes, and that computes h
 module _ {F B : Type 0} (g : Mut F (ℕ × Unit {0}) B) (h : ℕ → B) (f : F) (ys : List B) (d : B) (computes : (i : ℕ) (y : B) (q : F) → Called g f (i, tt) y q → (y ≡ h i) × (q ≡ f)) where

@@ -1,18 +1,17 @@
 -- What the loops of judging find is what a verdict says.
-use Rattle.std.proofs.Common.{◌≡◌, ℕ, suc, ◌+◌, ◌-◌, ◌<◌, ◌≤◌, Bool, true, false, cond, not, ◌&&◌, ◌||◌, eqb, ltb, List, [], ◌∷◌, length, get_or, take, Some, None, Ok, Err, sym, refl, ap, ◌∙◌, subst, ⊎_elim, arith, length-take, get_or-take}
-use mathlib.Core.Path.{fun_ext}
-use native.Mathlib.Nat.{sub-zero}
+use Rattle.std.proofs.lemmas.Grind.{common_steps}
+use Rattle.std.proofs.Common.{◌≡◌, ℕ, suc, ◌+◌, ◌-◌, ◌<◌, ◌≤◌, Bool, true, false, cond, not, eqb, ltb, List, [], ◌∷◌, length, take, Some, None, Ok, Err, refl, subst, arith}
 use lib.ListN.{get_or-eq_default}
-use Rattle.std.proofs.lemmas.Bool.{and_parts, not-false, ltb-true, ltb-false, lt-ltb, le-ltb, eqb-true, eqb-false, cases_lt, false≢true, both_ways}
+use Rattle.std.proofs.lemmas.Bool.{ltb-true, ltb-false, le-ltb, eqb-true, both_ways}
 use Rattle.std.specs.List.{AllByRecursion, position_from}
 use Rattle.rules.specs.Compose.{is_activate}
-use Rattle.rules.specs.Conditions.{Plan, met, condition, from_bytes, plan_of}
-use Rattle.rules.specs.Judging.{open_refusal, row_refusal, rows_refusal, judge_refusal, known_decisions, known_values, sized, book_of, Fits, FitsBelow, FirstMet, Breaks}
+use Rattle.rules.specs.Conditions.{Plan, met, from_bytes, plan_of}
+use Rattle.rules.specs.Judging.{open_refusal, row_refusal, rows_refusal, judge_refusal, sized, book_of, Fits, FitsBelow, FirstMet, Breaks}
 use Rattle.rules.specs.Plans.{Book, Lawful, active, size_at}
 use Rattle.rules.specs.Refusals.{when, as_result}
 use Rattle.rules.specs.Searches.{misfit, misfit_at, FirstMisfit}
 use Rattle.rules.specs.declared.decision.Decision.{Decision}
-use Rattle.rules.specs.declared.refusal.Refusal.TheVariants.{TooManyDecisions, SizeOutOfRange, UnknownDecision, UnknownValue}
+use Rattle.rules.specs.declared.refusal.Refusal.TheVariants.{TooManyDecisions, SizeOutOfRange}
 use Rattle.rules.specs.declared.row.Row.{Row}
 use Rattle.rules.specs.declared.verdict.Breach.{Breach}
 use Rattle.rules.specs.declared.verdict.Breach.TheVariants.{NotActive, NotChosen, OutOfRange, Forbidden}
@@ -27,11 +26,7 @@ accepted_few ds h = ltb-false 64 (length ds) (when_none (ltb 64 (length ds)) Too
 
 -- an accepted activate row has a known target
 row_target : (ds : List Decision) (r : Row) → row_refusal ds r ≡ None → is_activate r.kind ≡ true → r.target < length ds
-row_target ds r h a =
-    let tests = known_decisions (length ds) (condition r) && (not (is_activate r.kind) || ltb r.target (length ds)) in
-    let first = (or_else_none (when (not tests) UnknownDecision) (when (not (known_values ds (condition r))) UnknownValue) h).0 in
-    let known = (and_parts (known_decisions (length ds) (condition r)) (not (is_activate r.kind) || ltb r.target (length ds)) (not-false tests (when_none (not tests) UnknownDecision first))).1 in
-    ltb-true r.target (length ds) (subst (λ (b : Bool). (not b || ltb r.target (length ds)) ≡ true) a known)
+row_target ds r h a = grind (arith, common_steps)
 
 -- the targets of accepted activate rows are known
 targets_known : (ds : List Decision) (rs : List Row) → rows_refusal ds rs ≡ None → Targets (length ds) (activates rs)
@@ -46,19 +41,8 @@ targets_known ds (r ∷ rs) h =
 
 -- a decision that is no misfit
 pub misfit_none : (d size v : ℕ) (a : Bool) → misfit d size a v ≡ None → (0 < v → a ≡ true) × (a ≡ true → 0 < v) × (v ≤ size)
-misfit_none d size v false h =
-    let zero-value = ltb-false 0 v (when_none (ltb 0 v) (NotActive d) h) in
-    ((λ l. absurd (omega arith)), (λ e. absurd (false≢true e)), omega arith)
-misfit_none d size v true h = go (eqb v 0) refl h
-  where
-    go : (b : Bool) → eqb v 0 ≡ b → cond b (Some (NotChosen d)) (when (ltb size v) (OutOfRange d)) ≡ None → (0 < v → true ≡ true) × (true ≡ true → 0 < v) × (v ≤ size)
-    go true e k = absurd (some_none k)
-      where
-        some_none : Some (NotChosen d) ≡ None → ⊥
-        some_none q = let z : ◌≡◌ {A = ℕ} 0 1 = cc in omega arith
-    go false e k =
-        let ne : v ≡ 0 → ⊥ = eqb-false v 0 e in
-        ((λ l. refl), (λ q. omega arith), ltb-false size v (when_none (ltb size v) (OutOfRange d) k))
+misfit_none d size v false h = grind (arith, common_steps)
+misfit_none d size v true h = grind (arith, common_steps)
 
 module _ (b : Book) (p : Plan) (known : Targets (length b.decisions) b.activates) where
   fits_from : (d : ℕ) → misfit_at b.decisions (active b p) p d ≡ None → Fits b p d
@@ -124,17 +108,7 @@ bytes_idle bytes n e d l = get_or-eq_default bytes 0 (omega arith)
 
 -- the first n bytes stand for the plan over n decisions
 pub plan_part : (n : ℕ) (bytes : List ℕ) → from_bytes (take (n - 0) bytes) ≡ plan_of n bytes
-plan_part n bytes = fun_ext (λ (d : ℕ). ap (λ (k : ℕ). get_or (take k bytes) d 0) (sub-zero n) ∙ at d)
-  where
-    below : (d : ℕ) → d < n → get_or (take n bytes) d 0 ≡ plan_of n bytes d
-    below d h = get_or-take n bytes d 0 h ∙ ap (λ (b : Bool). cond b (get_or bytes d 0) 0) (sym (lt-ltb d n h))
-
-    past : (d : ℕ) → n ≤ d → get_or (take n bytes) d 0 ≡ plan_of n bytes d
-    past d h =
-        get_or-eq_default (take n bytes) 0 (omega (arith, length-take n bytes)) ∙ ap (λ (b : Bool). cond b (get_or bytes d 0) 0) (sym (le-ltb d n h))
-
-    at : (d : ℕ) → get_or (take n bytes) d 0 ≡ plan_of n bytes d
-    at d = ⊎_elim (below d) (past d) (cases_lt d n)
+plan_part n bytes = grind (arith, common_steps)
 
 -- the breach that judging finds, or that the plan is lawful
 module _ (ds : List Decision) (rs : List Row) (p : Plan) (accepted : open_refusal ds ≡ None) (known : rows_refusal ds rs ≡ None) where

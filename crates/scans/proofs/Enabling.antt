@@ -1,5 +1,6 @@
 -- The first row that enables a decision.
-use Rattle.std.proofs.Common.{◌≡◌, ℕ, Bool, true, false, cond, ◌&&◌, eqb, List, [], ◌∷◌, find, Some, None, Option, MatchOption, refl, ap, ◌∙◌, subst}
+use Rattle.std.proofs.lemmas.Grind.{common_steps}
+use Rattle.std.proofs.Common.{◌≡◌, ℕ, Bool, true, false, cond, ◌&&◌, eqb, List, [], ◌∷◌, find, Some, None, Option, MatchOption, refl, ap, ◌∙◌, subst, arith}
 use Rattle.std.specs.List.{AllByRecursion}
 use Rattle.std.specs.Option.{option_map}
 use Rattle.account.specs.Steps.{enabled_by}
@@ -25,12 +26,7 @@ named_by (Some r) = names (condition r)
 
 pub enabled_by_first : (rs : List Row) (p : Plan) (d : ℕ) → named_by (find (λ r. eqb d r.target && met p r) rs) ≡ enabled_by rs p d
 enabled_by_first [] p d = refl
-enabled_by_first (r ∷ rs) p d = go (eqb d r.target && met p r) (enabled_by_first rs p d)
-  where
-    go : (b : Bool) → named_by (find (λ x. eqb d x.target && met p x) rs) ≡ enabled_by rs p d
-        → named_by (cond b (Some r) (find (λ x. eqb d x.target && met p x) rs)) ≡ cond b (names (condition r)) (enabled_by rs p d)
-    go true later = refl
-    go false later = later
+enabled_by_first (r ∷ rs) p d = grind (arith, common_steps, enabled_by_first rs p d)
 
 -- a set that is read off what was found
 pub named_from : {X : Type 0} (f : X → Row) (o : Option X) (s e : DecisionSet) → members e ≡ (λ x. false) → MatchOption o (s ≡ e) (λ x. members s ≡ names (condition (f x))) → members s ≡ named_by (option_map f o)

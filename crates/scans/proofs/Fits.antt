@@ -1,8 +1,9 @@
 -- Whether decisions fit and no row is met, as loops find it.
-use Rattle.std.proofs.Common.{◌≡◌, ℕ, ◌≤◌, Bool, true, false, cond, not, ◌&&◌, List, [], ◌∷◌, length, take, filter, is_some, is_ok, Some, None, Option, Result, sym, refl, ap, ◌∙◌, subst}
+use Rattle.std.proofs.lemmas.Grind.{common_steps}
+use Rattle.std.proofs.Common.{◌≡◌, ℕ, ◌≤◌, Bool, true, false, not, ◌&&◌, List, [], ◌∷◌, length, take, filter, is_some, is_ok, Some, None, Option, Result, sym, refl, ap, ◌∙◌, subst, arith}
 use Rattle.std.specs.Option.{option_map}
 use Rattle.account.specs.Steps.{first_met}
-use Rattle.rules.specs.Conditions.{Plan, from_bytes, met}
+use Rattle.rules.specs.Conditions.{Plan, from_bytes}
 use Rattle.rules.specs.Plans.{Book, is_lawful, meets_none}
 use Rattle.rules.specs.Searches.{Chooses}
 use Rattle.rules.specs.declared.decision.Decision.{Decision}
@@ -27,11 +28,7 @@ lawful_by ds forbids activates prices bytes few short r t e h =
 -- no row is met if there is no first
 none_first : (rs : List Row) (p : Plan) → meets_none rs p ≡ not (is_some (first_met rs p))
 none_first [] p = refl
-none_first (r ∷ rs) p = go (met p r) (none_first rs p)
-  where
-    go : (b : Bool) → meets_none rs p ≡ not (is_some (first_met rs p)) → (not b && meets_none rs p) ≡ not (is_some (cond b (Some r) (first_met rs p)))
-    go true later = refl
-    go false later = later
+none_first (r ∷ rs) p = grind (arith, common_steps, none_first rs p)
 
 -- whether a search for the first found nothing
 pub found_none : {X : Type 0} (f : X → Row) (o : Option X) (r : Bool) (rs : List Row) (p : Plan) → is_some o ≡ not r → option_map f o ≡ first_met rs p → r ≡ meets_none rs p

@@ -1,6 +1,6 @@
 -- Sets that a loop gathers from rows.
-use Rattle.std.proofs.Common.{◌≡◌, ℕ, ◌+◌, ◌<◌, Bool, true, false, cond, not, ◌&&◌, ◌||◌, List, ◌∷◌, length, get_or, drop, sym, refl, ap, ◌∙◌, ap₂}
-use mathlib.Core.Bool.{or_assoc}
+use Rattle.std.proofs.lemmas.Grind.{common_steps}
+use Rattle.std.proofs.Common.{◌≡◌, ℕ, ◌+◌, ◌<◌, Bool, true, false, cond, not, ◌&&◌, ◌||◌, List, ◌∷◌, length, get_or, drop, sym, refl, ap, ◌∙◌, arith}
 use Rattle.std.proofs.lemmas.List.{at_drop_more}
 use Rattle.account.specs.Steps.{kept, named_in}
 use Rattle.measure.specs.Meaning.{Meaning}
@@ -24,12 +24,7 @@ module _ (p : Plan) (rs : List Row) (i : ℕ) (r : Row) (l : i < length rs) wher
     kept_here : (met p (get_or rs i r) && not (m.at_most best (m.joins before (cost m (drop (i + 1) rs) p)))) ≡ true
         → kept m best before (drop i rs) p ≡ (get_or rs i r ∷ kept m best (m.joins before (m.reads (get_or rs i r).price)) (drop (i + 1) rs) p)
     unfolding choice
-    kept_here h = next_kept ∙ go (met p (get_or rs i r)) (m.at_most best (m.joins before (cost m (drop (i + 1) rs) p))) h
-      where
-        go : (b t : Bool) → (b && not t) ≡ true → choice b t ≡ (get_or rs i r ∷ kept m best (m.joins before (m.reads (get_or rs i r).price)) (drop (i + 1) rs) p)
-        go true false e = refl
-        go true true e = cc
-        go false t e = cc
+    kept_here h = grind (arith, common_steps, next_kept, choice)
 
     -- the next row is not met, or can be spared
     kept_not : (met p (get_or rs i r) && not (m.at_most best (m.joins before (cost m (drop (i + 1) rs) p)))) ≡ false
@@ -50,11 +45,7 @@ module _ (p : Plan) (rs : List Row) (i : ℕ) (r : Row) (l : i < length rs) wher
     pub gather_kept : (later next : C) (set set' row : ℕ → Bool) → later ≡ cost m (drop (i + 1) rs) p → (met p (get_or rs i r) && not (m.at_most best (m.joins before later))) ≡ true
         → next ≡ m.joins before (m.reads (get_or rs i r).price) → row ≡ names (condition (get_or rs i r)) → set' ≡ (λ (x : ℕ). set x || row x)
         → (x : ℕ) → (set' x || named_in (kept m best next (drop (i + 1) rs) p) x) ≡ (set x || named_in (kept m best before (drop i rs) p) x)
-    gather_kept later next set set' row e h n o u x =
-        ap₂ (λ (t : ℕ → Bool) (c : C). t x || named_in (kept m best c (drop (i + 1) rs) p) x) u n
-        ∙ or_assoc (set x) (row x) (named_in (kept m best (m.joins before (m.reads (get_or rs i r).price)) (drop (i + 1) rs) p) x)
-        ∙ ap (λ (t : ℕ → Bool). set x || (t x || named_in (kept m best (m.joins before (m.reads (get_or rs i r).price)) (drop (i + 1) rs) p) x)) o
-        ∙ ap (λ (ks : List Row). set x || named_in ks x) (sym (kept_here (tested later true e h)))
+    gather_kept later next set set' row e h n o u x = grind (arith, common_steps, kept_here, tested)
 
     -- a row that is not kept gives nothing
     pub skip_spared : (later : C) (x : ℕ) → later ≡ cost m (drop (i + 1) rs) p → (met p (get_or rs i r) && not (m.at_most best (m.joins before later))) ≡ false

@@ -1,4 +1,3 @@
-pub mod Firsts
 pub mod Costs
 pub mod Gathered
 pub mod Enabling

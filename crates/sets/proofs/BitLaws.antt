@@ -1,11 +1,12 @@
 -- The bits of a number, at any width: what the operations on numbers do to each bit.
-use Rattle.std.proofs.Common.{◌≡◌, ℕ, zero, suc, ◌+◌, ◌-◌, ◌*◌, ◌/◌, ◌%◌, ◌^◌, ◌<◌, min, max, Bool, ltb, true, false, cond, not, ◌&&◌, ◌||◌, eqb, ◌⊎◌, sym, refl, ap, ◌∙◌, ap₂, inl, inr, le_of_suc-le-suc, not-suc-le-zero, lt_of_le_of_lt, mod-lt, mod-eq_of_lt, add_comm, pow-suc, one-add, arith, pow_pos, shr-shr}
+use Rattle.std.proofs.lemmas.Grind.{common_steps}
+use Rattle.std.proofs.Common.{◌≡◌, ℕ, zero, suc, ◌+◌, ◌-◌, ◌*◌, ◌/◌, ◌%◌, ◌^◌, ◌<◌, min, max, Bool, ltb, true, false, cond, not, ◌&&◌, ◌||◌, eqb, ◌⊎◌, sym, refl, ap, ◌∙◌, inl, inr, le_of_suc-le-suc, not-suc-le-zero, lt_of_le_of_lt, mod-lt, mod-eq_of_lt, add_comm, pow-suc, one-add, arith, pow_pos, shr-shr}
 use mathlib.Core.Path.{fun_ext}
 use native.Mathlib.Nat.{mod-one}
 use lib.Bits.{bit_and, bit_or, and_le_l, and_mask}
 use lib.Count.{ones, ones_in, count_trailing_zeros, under, ones_cat, ones-ones}
 use lib.Pow.{pow-lt, mod-pow-add}
-use Rattle.std.proofs.lemmas.Bool.{cases_eq, cases_lt, eq-eqb, lt-ltb, le-ltb, ne_eqb, not_from_false, or_right}
+use Rattle.std.proofs.lemmas.Bool.{cases_eq, cases_lt, eq-eqb, lt-ltb, le-ltb, ne_eqb}
 use Rattle.std.proofs.lemmas.Nat.Bits.{bit_at_and, bit_at_or, bit_at-pow_same, bit_at-pow_other, bit_at_ones, bit_at_ones_above}
 use Rattle.std.proofs.lemmas.Bool.Decides.{nat_tests}
 use Rattle.sets.specs.Members.{bit}
@@ -75,17 +76,8 @@ bit_single d k =
 -- a bit of `!n` at a width
 pub bit_complement : (w n k : ℕ) → n < 2 ^ w → k < w → bit (2 ^ w - 1 - n) k ≡ not (bit n k)
 bit_complement zero n k h l = absurd (not-suc-le-zero l)
-bit_complement (suc w) n zero h l =
-    bit_zero (2 ^ suc w - 1 - n) ∙ flip (n % 2) (omega arith) (omega (arith, pow-suc 2 w)) ∙ sym (ap not (bit_zero n))
-  where
-    -- a digit taken from 1 is the other digit
-    flip : (d : ℕ) {e : ℕ} → d < 2 → e ≡ 1 - d → eqb e 1 ≡ not (eqb d 1)
-    flip zero h p = ap (λ (x : ℕ). eqb x 1) p
-    flip (suc zero) h p = ap (λ (x : ℕ). eqb x 1) p
-    flip (suc (suc d)) h p = not_digit h
-bit_complement (suc w) n (suc k) h l =
-    bit_suc (2 ^ suc w - 1 - n) k ∙ ap (λ (x : ℕ). bit x k) (omega (arith, pow-suc 2 w))
-    ∙ bit_complement w (n / 2) k (omega (arith, pow-suc 2 w)) (le_of_suc-le-suc l) ∙ sym (ap not (bit_suc n k))
+bit_complement (suc w) n zero h l = grind (arith, common_steps, bit_zero, not_digit)
+bit_complement (suc w) n (suc k) h l = grind (arith, common_steps, bit_complement w (n / 2) k (omega (arith, pow-suc 2 w)) (le_of_suc-le-suc l), bit_suc)
 
 -- a bit of `n & !(1 << d)` at a width
 pub bit_remove : (w n d k : ℕ) → d < w → k < w → bit (bit_and n (2 ^ w - 1 - 2 ^ d)) k ≡ (bit n k && not (eqb k d))
@@ -110,18 +102,7 @@ low_more n m = ap (λ (x : ℕ). n % 2 ^ x) (sym (one-add m)) ∙ mod-pow-add n 
 pub some_low_bit : (w n : ℕ) → some_below (bit n) w ≡ not (eqb (n % 2 ^ w) 0)
 unfolding some_below
 some_low_bit zero n = ap (λ (x : ℕ). not (eqb x 0)) (sym (mod-one n))
-some_low_bit (suc w) n =
-    ap (λ (b : Bool). b || bit n w) (some_low_bit w n)
-    ∙ either (n / 2 ^ w % 2) (n % 2 ^ w) (bit_digit n w (n / 2 ^ w % 2) refl) (omega arith)
-    ∙ ap (λ (x : ℕ). not (eqb x 0)) (sym (low_more n w))
-  where
-    -- a number is 0 where its high digit and what is below it are
-    either : (d r : ℕ) {b : Bool} → b ≡ eqb d 1 → d < 2 → (not (eqb r 0) || b) ≡ not (eqb (d * 2 ^ w + r) 0)
-    either zero r e h =
-        or_failed (not (eqb r 0)) _ e ∙ ap (λ (x : ℕ). not (eqb x 0)) (omega arith)
-    either (suc zero) r e h =
-        or_right (not (eqb r 0)) _ e ∙ sym (not_from_false (eqb (1 * 2 ^ w + r) 0) (ne_eqb (1 * 2 ^ w + r) 0 (λ (z : 1 * 2 ^ w + r ≡ 0). omega (arith, pow_pos w))))
-    either (suc (suc d)) r e h = not_digit h
+some_low_bit (suc w) n = grind (arith, common_steps, some_low_bit w n, bit_digit, low_more, or_failed, not_digit)
 
 -- a number of some width is not 0 where some bit below the width is set
 pub some_bit : (w n : ℕ) → n < 2 ^ w → some_below (bit n) w ≡ not (eqb n 0)
@@ -177,12 +158,4 @@ ones_more n m =
 pub ones_outside : (t : ℕ → Bool) (n m : ℕ) → ((k : ℕ) → k < m → bit n k ≡ not (t (suc k))) → ones (n % 2 ^ m) ≡ count_outside t m
 unfolding count_outside
 ones_outside t n zero same = ap ones (mod-one n) ∙ ones-ones 0
-ones_outside t n (suc m) same =
-    ones_more n m
-    ∙ ap₂ (λ (x y : ℕ). x + y) (ones_outside t n m (λ k h. same k (omega arith)))
-    (ap (λ (b : Bool). cond b 1 0) (same m (omega arith)) ∙ turned (t (suc m)))
-  where
-    -- one is added where the test fails
-    turned : (b : Bool) → ◌≡◌ {A = ℕ} (cond (not b) 1 0) (cond b 0 1)
-    turned true = refl
-    turned false = refl
+ones_outside t n (suc m) same = grind (arith, common_steps, ones_outside t n m (λ k h. same k (omega arith)), ones_more)

@@ -1,9 +1,10 @@
 -- Which decisions are in a set, by its bits.
+use Rattle.std.proofs.lemmas.Grind.{common_steps}
 use Rattle.std.proofs.Common.{◌≡◌, ℕ, ◌-◌, ◌*◌, ◌%◌, ◌^◌, ◌<◌, ◌≤◌, Bool, false, not, ◌&&◌, ◌||◌, eqb, ltb, sym, refl, ap, ◌∙◌, ap₂, inl, inr, arith}
 use mathlib.Core.Path.{fun_ext}
 use lib.Bits.{bit_and, bit_or}
 use Rattle.std.proofs.lemmas.Nat.{one_shl}
-use Rattle.std.proofs.lemmas.Bool.{cases_lt, lt-ltb, le-ltb, ne_eqb, and_left, or_from, not_from_false}
+use Rattle.std.proofs.lemmas.Bool.{cases_lt, lt-ltb, le-ltb, ne_eqb, and_left, or_from}
 use Rattle.sets.specs.declared.decision_set.DecisionSet.{DecisionSet}
 use Rattle.sets.specs.Members.{bit, members}
 use Rattle.sets.specs.Searches.{some_below}
@@ -63,10 +64,7 @@ members_without s d hd =
 
 -- to remove what no set has changes nothing
 pub members_without_none : (s : DecisionSet) (d : ℕ) → 64 ≤ d → members s ≡ (λ x. members s x && not (eqb x d))
-members_without_none s d hd =
-    members_are s (λ x. members s x && not (eqb x d))
-    (λ x h. sym (and_held (members s x) (not (eqb x d)) (not_from_false (eqb x d) (ne_eqb x d (λ (e : x ≡ d). omega arith))) ∙ member_bit s x h))
-    (λ x h. and_left (members s x) (not (eqb x d)) (no_member s x h))
+members_without_none s d hd = grind (arith, common_steps, members_are, and_held, member_bit, no_member)
 
 -- two sets with a bit in common have a decision in common
 pub common_member : (s o : DecisionSet) → s.bits < 2 ^ 64

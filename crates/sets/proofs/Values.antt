@@ -1,11 +1,12 @@
 -- Which values are in a set, by its bits.
+use Rattle.std.proofs.lemmas.Grind.{common_steps}
 use Rattle.std.proofs.Common.{◌≡◌, ℕ, zero, suc, ◌+◌, ◌-◌, ◌*◌, ◌/◌, ◌%◌, ◌^◌, ◌<◌, ◌≤◌, Bool, true, false, not, ◌&&◌, ◌||◌, eqb, ltb, leb, ◌⊎◌, sym, refl, ap, ◌∙◌, ap₂, inl, inr, not-suc-le-zero, arith}
 use mathlib.Core.Path.{fun_ext}
 use lib.Bits.{bit_and, bit_or, and_mask}
 use lib.Count.{ones, count_trailing_zeros, trailing_le}
 use lib.Dec.{eqb-suc-suc}
 use Rattle.std.proofs.lemmas.Nat.{one_shl}
-use Rattle.std.proofs.lemmas.Bool.{cases_lt, cases_eq, not_from_false, le-leb, lt-leb, leb-true, le-ltb, lt-ltb, ne_eqb, and_left, and_parts, and_right, and_from, or_from, not-true, not-false}
+use Rattle.std.proofs.lemmas.Bool.{cases_lt, le-leb, lt-leb, leb-true, le-ltb, lt-ltb, ne_eqb, and_left, and_parts, and_right, and_from, or_from, not-true, not-false}
 use Rattle.std.specs.Bool.{then_some}
 use Rattle.sets.specs.declared.value_set.ValueSet.{ValueSet}
 use Rattle.sets.specs.Members.{bit, values}
@@ -17,9 +18,7 @@ use Rattle.sets.proofs.SearchLaws.{none_outside, first_outside}
 -- value 1 + k is in a set where bit k is set, for k below 16
 pub value_bit : (s : ValueSet) (k : ℕ) → k < 16 → values s (suc k) ≡ bit s.bits k
 unfolding values
-value_bit s k h =
-    ap₂ (λ (b : Bool) (n : ℕ). b && bit s.bits n)
-    (and_from (leb 1 (suc k)) (leb (suc k) 16) (le-leb 1 (suc k) (omega arith)) (le-leb (suc k) 16 (omega arith))) (omega arith)
+value_bit s k h = grind (arith, common_steps)
 
 -- 0 is in no set
 pub no_value_zero : (s : ValueSet) → values s 0 ≡ false
@@ -89,10 +88,7 @@ values_without s v low high =
 
 -- to remove what no set has changes nothing
 pub values_without_none : (s : ValueSet) (v : ℕ) → values s v ≡ false → values s ≡ (λ x. values s x && not (eqb x v))
-values_without_none s v none = fun_ext (λ x. elim (cases_eq x v) [
-  | inl e ↦ ap (values s) e ∙ none ∙ sym (and_left (values s x) (not (eqb x v)) (ap (values s) e ∙ none))
-  | inr ne ↦ sym (and_held (values s x) (not (eqb x v)) (not_from_false (eqb x v) (ne_eqb x v ne)))
-])
+values_without_none s v none = grind (arith, common_steps)
 
 -- a bit of a set's complement is set where the value is not in the set
 pub outside_bit : (s : ValueSet) (k : ℕ) → s.bits < 2 ^ 16 → k < 16 → bit (2 ^ 16 - 1 - s.bits) k ≡ not (values s (suc k))

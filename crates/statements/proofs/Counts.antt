@@ -1,5 +1,6 @@
 -- The fields of a line counted one by one.
-use Rattle.std.proofs.Common.{◌≡◌, ℕ, ◌+◌, Bool, true, false, cond, not, ◌||◌, List, [], ◌∷◌, length, Some, refl, sym, ap, ap₂, ◌∙◌, option_map}
+use Rattle.std.proofs.lemmas.Grind.{common_steps}
+use Rattle.std.proofs.Common.{◌≡◌, ℕ, ◌+◌, Bool, not, ◌||◌, List, [], ◌∷◌, length, refl, sym, ap, ap₂, ◌∙◌, option_map, arith}
 use Rattle.std.specs.List.{enumerate_from, find}
 use Rattle.std.proofs.lemmas.Iterator.{YieldsList}
 use Rattle.std.proofs.lemmas.Iterator.Consumers.{YieldsList-from_shown}
@@ -36,7 +37,4 @@ bad k p = is_nil p.1.1 || not (takes_field k p.0)
 pub bad_found : (k : LineKind) (n c : ℕ) (fs : List (List ℕ)) → option_map (λ p. p.1.0) (find (bad k) (enumerate_from n (located c fs))) ≡ first_bad k n c fs
 unfolding first_bad
 bad_found k n c [] = refl
-bad_found k n c (f ∷ fs) =
-    elim (is_nil f || not (takes_field k n)) as
-    (λ t. option_map (λ (p : ℕ × (ℕ × List ℕ)). p.1.0) (cond t (Some (n, (c, f))) (find (bad k) (enumerate_from (n + 1) (located (c + length f + 1) fs)))) ≡ cond t (Some c) (first_bad k (n + 1) (c + length f + 1) fs))
-    [ true ↦ refl | false ↦ bad_found k (n + 1) (c + length f + 1) fs ]
+bad_found k n c (f ∷ fs) = grind (arith, common_steps, bad_found k (n + 1) (c + length f + 1) fs)

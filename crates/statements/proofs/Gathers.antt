@@ -1,5 +1,6 @@
 -- Pairs gathered one by one, five at most.
-use Rattle.std.proofs.Common.{◌≡◌, ℕ, zero, suc, ◌+◌, ◌≤◌, List, [], ◌∷◌, ◌++◌, length, take, Ok, Err, Result, sym, refl, ap, ◌∙◌}
+use Rattle.std.proofs.lemmas.Grind.{common_steps}
+use Rattle.std.proofs.Common.{◌≡◌, ℕ, zero, suc, ◌+◌, ◌≤◌, List, [], ◌∷◌, ◌++◌, length, take, Ok, Err, Result, sym, refl, ap, ◌∙◌, arith}
 use Rattle.std.proofs.lemmas.List.{append_assoc, append-nil, take_all}
 use Rattle.rules.specs.declared.literal.Literal.{Literal}
 use Rattle.statements.specs.Forms.{pair_of}
@@ -20,9 +21,7 @@ gathered n c fs ps = on_ok (λ ls. take 5 (ps ++ ls)) (read_pairs n c fs)
 module _ (n c : ℕ) (ps : List Literal) where
   pub bad_pair : (f : List ℕ) (fs gs : List (List ℕ)) (e : Fault) → fs ≡ f ∷ gs → formed n c (pair_of f) ≡ Err e → gathered n c fs ps ≡ Err e
   unfolding read_pairs
-  bad_pair f fs gs e p q =
-      ap (λ (l : List (List ℕ)). gathered n c l ps) p
-      ∙ ap (λ (r : Result Literal Fault). on_ok (λ ls. take 5 (ps ++ ls)) (then r (λ l. then (read_pairs n (c + length f + 1) gs) (λ ls. Ok (l ∷ ls))))) q
+  bad_pair f fs gs e p q = grind (arith, common_steps)
 
   pub one_pair : (f : List ℕ) (fs gs : List (List ℕ)) (l : Literal) (d : ℕ) (qs : List Literal) → fs ≡ f ∷ gs → formed n c (pair_of f) ≡ Ok l → d ≡ c + length f + 1 → qs ≡ take 5 (ps ++ l ∷ []) → gathered n c fs ps ≡ gathered n d gs qs
   unfolding read_pairs

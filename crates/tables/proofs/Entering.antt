@@ -1,8 +1,8 @@
 -- A trail's entries as two arrays hold them, and one entry more.
-use Rattle.std.proofs.Common.{◌≡◌, ℕ, zero, suc, ◌+◌, ◌<◌, ◌≤◌, true, false, ◌&&◌, eqb, ltb, leb, List, [], ◌∷◌, ◌++◌, length, take, get_or, set, replicate, sym, refl, ap, ap₂, ◌∙◌, ⊎_elim, add-one, arith}
-use Rattle.std.proofs.lemmas.List.{get_or-set_same, get_or-set_other, get_or-replicate, get_or-take, get_or_append_left, get_or_past, length-append, length-replicate, length-take}
-use Rattle.std.proofs.Math.Seq.{get_or-append_seam}
-use Rattle.std.proofs.lemmas.Bool.{and_parts, and_from, cases_eq, cases_lt, eqb-true, eq-eqb, ltb-true, lt-ltb, leb-true, le-leb}
+use Rattle.std.proofs.lemmas.Grind.{common_steps}
+use Rattle.std.proofs.Common.{◌≡◌, ℕ, zero, suc, ◌+◌, ◌<◌, ◌≤◌, true, false, List, [], ◌∷◌, ◌++◌, length, take, get_or, set, replicate, sym, refl, ap, ◌∙◌, ⊎_elim, arith}
+use Rattle.std.proofs.lemmas.List.{get_or-set_same, get_or-set_other, get_or-replicate, get_or_past, length-replicate}
+use Rattle.std.proofs.lemmas.Bool.{and_parts, and_from, cases_eq, cases_lt}
 use Rattle.rules.specs.Plans.{size_at, absent}
 use Rattle.rules.specs.declared.decision.Decision.{Decision}
 use Rattle.account.specs.Accounts.{Entry as Choice, chosen}
@@ -20,22 +20,10 @@ pub record Enters (e : Choice) (es : List Choice) : Type 0 where
   pub idle : chosen es e.decision ≡ 0
 
 pub enters_says : (e : Choice) (es : List Choice) → enters e es ≡ true → Enters e es
-enters_says e es h =
-    let a = and_parts (ltb e.decision 64) (leb 1 e.value && (leb e.value 16 && eqb (chosen es e.decision) 0)) h in
-    let b = and_parts (leb 1 e.value) (leb e.value 16 && eqb (chosen es e.decision) 0) a.1 in
-    let c = and_parts (leb e.value 16) (eqb (chosen es e.decision) 0) b.1 in
-    record {
-      known = ltb-true e.decision 64 a.0;
-      some = leb-true 1 e.value b.0;
-      few = leb-true e.value 16 c.0;
-      idle = eqb-true (chosen es e.decision) 0 c.1;
-    }
+enters_says e es h = grind (arith, common_steps)
 
 pub says_enters : (e : Choice) (es : List Choice) → Enters e es → enters e es ≡ true
-says_enters e es h =
-    and_from (ltb e.decision 64) (leb 1 e.value && (leb e.value 16 && eqb (chosen es e.decision) 0)) (lt-ltb e.decision 64 h.known)
-    (and_from (leb 1 e.value) (leb e.value 16 && eqb (chosen es e.decision) 0) (le-leb 1 e.value h.some)
-    (and_from (leb e.value 16) (eqb (chosen es e.decision) 0) (le-leb e.value 16 h.few) (eq-eqb (chosen es e.decision) 0 h.idle)))
+says_enters e es h = grind (arith, common_steps)
 
 -- a proper trail's newest entry, and the older ones
 pub proper_parts : (e : Choice) (es : List Choice) → proper (e ∷ es) ≡ true → Enters e es × (proper es ≡ true)
@@ -77,23 +65,15 @@ entries_same es fs (suc n) h =
 
 -- the first n entries, cut off
 pub entries_taken : (es : List Entry) (n : ℕ) → n ≤ length es → newest_first (take n es) ≡ entries_of es n
-entries_taken es n l =
-    let long : length (take n es) ≡ n = omega (arith, length-take n es) in
-    ap (entries_of (take n es)) long ∙ entries_same (take n es) es n (λ k h. get_or-take n es k blank h)
+entries_taken es n l = grind (arith, common_steps, entries_same)
 
 -- one entry more
 pub entries_pushed : (es : List Entry) (e : Entry) → newest_first (es ++ e ∷ []) ≡ entry_of e ∷ newest_first es
-entries_pushed es e =
-    ap (entries_of (es ++ e ∷ [])) (length-append es (e ∷ []) ∙ add-one (length es))
-    ∙ ap₂ (λ (x : Entry) (cs : List Choice). entry_of x ∷ cs) (get_or-append_seam es e [] blank)
-    (entries_same (es ++ e ∷ []) es (length es) (λ k h. get_or_append_left es (e ∷ []) blank k h))
+entries_pushed es e = grind (arith, common_steps, entries_same)
 
 -- an entry written behind the first n
 pub entries_set : (es : List Entry) (n : ℕ) (e : Entry) → n < length es → entries_of (set es n e) (n + 1) ≡ entry_of e ∷ entries_of es n
-entries_set es n e l =
-    rw add-one
-    (ap (λ (x : Entry). entry_of x ∷ entries_of (set es n e) n) (get_or-set_same es n e blank l)
-    ∙ ap (λ (cs : List Choice). entry_of e ∷ cs) (entries_same (set es n e) es n (λ k h. get_or-set_other es n k e blank (λ (q : k ≡ n). omega arith))))
+entries_set es n e l = grind (arith, common_steps, entries_same)
 
 -- one of the first n entries of a proper trail
 pub entry_proper : (es : List Entry) (n k : ℕ) → proper (entries_of es n) ≡ true → k < n → Enters (entry_of (get_or es k blank)) (entries_of es k) × (proper (entries_of es k) ≡ true)

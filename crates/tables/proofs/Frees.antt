@@ -1,50 +1,36 @@
 -- What is found among the exclusions of one decision's values.
-use Rattle.std.proofs.Common.{List, [], ◌∷◌, ◌++◌, ◌≡◌, ℕ, zero, suc, ◌+◌, ◌<◌, ◌≤◌, min, Bool, true, false, cond, not, ◌||◌, Some, None, Option, sym, refl, ap, ◌∙◌, ap₂, arith}
+use Rattle.std.proofs.lemmas.Grind.{common_steps}
+use Rattle.std.proofs.Common.{List, [], ◌∷◌, ◌++◌, ◌≡◌, ℕ, zero, suc, ◌<◌, ◌≤◌, min, Bool, false, not, ◌||◌, Option, sym, refl, ap, ◌∙◌, ap₂, arith}
 use Rattle.std.specs.List.{fold, list_any, range_with_len}
 use Rattle.std.proofs.lemmas.List.Folds.{list_any-append}
 use Rattle.tables.proofs.Ranges.{next_in_range}
 use Rattle.std.proofs.lemmas.List.Sums.{fold-append}
 use Rattle.rules.specs.Plans.{Set}
-use Rattle.rules.specs.Refusals.{or_else, when}
 use Rattle.account.specs.Accounts.{Exclusion, either, nobody}
 use Rattle.account.specs.Calls.{count_free}
 use Rattle.account.specs.Steps.{any_rests, is_free, reason_of, reasons, rests_on, smallest_free}
 use Rattle.sets.proofs.BoolLaws.{or_failed}
-use Rattle.sets.specs.Searches.{count_outside, or_else as or_else_sets, smallest_outside, unless}
-use Rattle.tables.specs.Excluded.{exclusions_of, is_excluded, stored_at}
+use Rattle.sets.specs.Searches.{count_outside, smallest_outside}
+use Rattle.tables.specs.Excluded.{exclusions_of, is_excluded}
 use Rattle.tables.specs.declared.exclusions.Exclusions.{Exclusions}
 use Rattle.tables.proofs.Cells.{exclusion_at}
 
 -- a value is free that is not in its decision's set
 pub free_at : (x : Exclusions) (d v : ℕ) → d < 64 → is_free (exclusions_of x d v) ≡ not (is_excluded x d v)
-free_at x d v h = ap is_free (exclusion_at x d v h) ∙ at (is_excluded x d v) (stored_at x d v)
-  where
-    at : (b : Bool) (e : Exclusion) → is_free (when b e) ≡ not b
-    at true e = refl
-    at false e = refl
+free_at x d v h = grind (arith, common_steps, exclusion_at)
 
 module _ (ex : ℕ → Option Exclusion) (t : ℕ → Bool) (free : (v : ℕ) → is_free (ex v) ≡ not (t v)) where
   -- the smallest value outside a set is the smallest free one
   pub smallest_free_lem : (n : ℕ) → smallest_outside t n ≡ smallest_free ex n
   unfolding smallest_outside
   smallest_free_lem zero = refl
-  smallest_free_lem (suc n) =
-      at (smallest_outside t n) (t (suc n)) ∙ ap₂ (λ (o : Option ℕ) (b : Bool). or_else o (when b (suc n))) (smallest_free_lem n) (sym (free (suc n)))
-    where
-      at : (o : Option ℕ) (b : Bool) → or_else_sets o (unless b (suc n)) ≡ or_else o (when (not b) (suc n))
-      at (Some k) b = refl
-      at None true = refl
-      at None false = refl
+  smallest_free_lem (suc n) = grind (arith, common_steps, smallest_free_lem n)
 
   -- as many values are free as are outside a set
   pub count_free_lem : (n : ℕ) → count_outside t n ≡ count_free ex n
   unfolding count_outside
   count_free_lem zero = refl
-  count_free_lem (suc n) = ap₂ (λ (k m : ℕ). k + m) (count_free_lem n) (at (t (suc n)) ∙ ap (λ (b : Bool). cond b 1 0) (sym (free (suc n))))
-    where
-      at : (b : Bool) → ◌≡◌ {A = ℕ} (cond b 0 1) (cond (not b) 1 0)
-      at true = refl
-      at false = refl
+  count_free_lem (suc n) = grind (arith, common_steps, count_free_lem n)
 
 -- a size of 16 at most
 pub whole_size : (size : ℕ) → size ≤ 16 → min size 16 ≡ size

@@ -1,21 +1,14 @@
 -- Sets with one value marked.
-use Rattle.std.proofs.Common.{◌≡◌, ℕ, zero, suc, ◌≤◌, Bool, true, false, cond, ◌&&◌, ◌||◌, eqb, leb, refl, ◌∙◌, inl, inr, arith}
-use mathlib.Core.Path.{fun_ext}
-use Rattle.std.proofs.lemmas.Bool.{and_from, both_ways, cases_lt, le-leb}
+use Rattle.std.proofs.lemmas.Grind.{common_steps}
+use Rattle.std.proofs.Common.{◌≡◌, ℕ, zero, suc, ◌≤◌, true, cond, ◌&&◌, ◌||◌, eqb, leb, inl, inr, arith}
+use Rattle.std.proofs.lemmas.Bool.{both_ways, cases_lt}
 use Rattle.sets.proofs.Values.{no_value_above, no_value_zero}
 use Rattle.sets.specs.Members.{values}
 use Rattle.sets.specs.declared.value_set.ValueSet.{ValueSet}
 
 -- a value put in
 pub marked_in : (s r : ValueSet) (v : ℕ) → 1 ≤ v → v ≤ 16 → values r ≡ (λ x. values s x || (eqb x v && (leb 1 v && leb v 16))) → values r ≡ (λ x. cond (eqb x v) true (values s x))
-marked_in s r v low high e =
-    e ∙ fun_ext (λ (x : ℕ). at (values s x) (eqb x v) (and_from (leb 1 v) (leb v 16) (le-leb 1 v low) (le-leb v 16 high)))
-  where
-    at : (a b : Bool) {t : Bool} → t ≡ true → (a || (b && t)) ≡ cond b true a
-    at true true e = refl
-    at true false e = refl
-    at false true e = e
-    at false false e = refl
+marked_in s r v low high e = grind (arith, common_steps)
 
 -- only 1 to 16 can be in a set of values
 pub value_known : (s : ValueSet) (v : ℕ) → values s v ≡ true → (1 ≤ v) × (v ≤ 16)

@@ -1,15 +1,15 @@
 -- What a retreat leaves of a trail whose entries are proper: what left is off the plan, and the rest stays as it was.
-use Rattle.std.proofs.Common.{◌≡◌, ℕ, zero, suc, ◌+◌, ◌<◌, Bool, true, false, cond, ◌||◌, eqb, List, [], ◌∷◌, length, get_or, Some, None, sym, refl, ap, ◌∙◌, ⊎_elim, add-zero, add-suc, arith}
+use Rattle.std.proofs.lemmas.Grind.{common_steps}
+use Rattle.std.proofs.Common.{◌≡◌, ℕ, zero, suc, ◌+◌, ◌<◌, true, false, cond, List, ◌∷◌, length, get_or, Some, None, sym, refl, ap, ◌∙◌, ⊎_elim, add-zero, add-suc, arith}
 use Rattle.std.specs.List.{AllByRecursion}
-use Rattle.std.proofs.lemmas.Bool.{cases_Bool, cases_eq, cond_both, cond-true, cond-false, eq-eqb, ne_eqb, eqb-true, or_cases, false≢true}
+use Rattle.std.proofs.lemmas.Bool.{cases_Bool, cond-false}
 use Rattle.rules.specs.Plans.{Set}
-use Rattle.account.specs.Accounts.{Entry as Choice, chosen, has_any}
+use Rattle.account.specs.Accounts.{Entry as Choice, chosen}
 use Rattle.account.specs.Steps.{Retreat as Parting, follow, retreat}
-use Rattle.account.proofs.Trails.{chosen_here, chosen_other}
 use Rattle.tables.specs.Entries.{entry_of, blank, entries_of, newest_first, proper, in_list}
 use Rattle.tables.specs.Retreats.{followed, swept, Latest}
 use Rattle.tables.specs.declared.entry.Entry.{Entry}
-use Rattle.tables.proofs.Entering.{Enters, proper_parts, proper_more}
+use Rattle.tables.proofs.Entering.{Enters, proper_parts}
 
 -- what a retreat r has left of a trail es
 pub record Parted (es : List Choice) (r : Parting) : Type 0 where
@@ -19,23 +19,7 @@ pub record Parted (es : List Choice) (r : Parting) : Type 0 where
   pub planned : (x : ℕ) → chosen r.stays x ≡ cond (in_list x r.left) 0 (chosen es x)
   pub properly : proper r.stays ≡ true
 
--- the newest entry is the culprit, and alone has left
-abbrev begun : Choice → List Choice → Parting
-begun e es = record { culprit = e; left = e.decision ∷ []; stays = es }
-
 module _ (e : Choice) (es : List Choice) (h : Enters e es) where
-  parted_first : proper es ≡ true → Parted (e ∷ es) (begun e es)
-  parted_first p =
-      record {
-        known = (h.known, tt);
-        were = λ x t. ⊎_elim (λ (b : eqb x e.decision ≡ true). rw (chosen_here e es x (eqb-true x e.decision b)) h.some) (λ (b : false ≡ true). absurd (false≢true b)) (or_cases (eqb x e.decision) false t);
-        planned =
-            λ x. ⊎_elim (λ (q : x ≡ e.decision). ap (chosen es) q ∙ h.idle ∙ sym (cond-true (eqb x e.decision || false) 0 (chosen (e ∷ es) x) (ap (λ (b : Bool). b || false) (eq-eqb x e.decision q))))
-            (λ (q : x ≡ e.decision → ⊥). sym (cond-false (eqb x e.decision || false) 0 (chosen (e ∷ es) x) (ap (λ (b : Bool). b || false) (ne_eqb x e.decision q)) ∙ chosen_other e es x q))
-            (cases_eq x e.decision);
-        properly = p;
-      }
-
   module _ (r : Parting) (l : Parted es r) where
     -- the new entry's decision is not among those that left
     apart : in_list e.decision r.left ≡ false
@@ -44,45 +28,13 @@ module _ (e : Choice) (es : List Choice) (h : Enters e es) where
     idle : chosen r.stays e.decision ≡ 0
     idle = l.planned e.decision ∙ cond-false (in_list e.decision r.left) 0 (chosen es e.decision) apart ∙ h.idle
 
-    still : (x : ℕ) → 0 < chosen es x → 0 < chosen (e ∷ es) x
-    still x t = cond_both (eqb x e.decision) e.value (chosen es x) (λ (y : ℕ). 0 < y) (λ _. h.some) (λ _. t)
-
-    parted_leaves : Parted (e ∷ es) (record { culprit = r.culprit; left = e.decision ∷ r.left; stays = r.stays })
-    parted_leaves =
-        record {
-          known = (h.known, l.known);
-          were = λ x t. ⊎_elim (λ (b : eqb x e.decision ≡ true). rw (chosen_here e es x (eqb-true x e.decision b)) h.some) (λ (b : in_list x r.left ≡ true). still x (l.were x b)) (or_cases (eqb x e.decision) (in_list x r.left) t);
-          planned =
-              λ x. ⊎_elim (λ (q : x ≡ e.decision). ap (chosen r.stays) q ∙ idle ∙ sym (cond-true (eqb x e.decision || in_list x r.left) 0 (chosen (e ∷ es) x) (ap (λ (b : Bool). b || in_list x r.left) (eq-eqb x e.decision q))))
-              (λ (q : x ≡ e.decision → ⊥). l.planned x ∙ ap (λ (b : Bool). cond (b || in_list x r.left) 0 (chosen es x)) (sym (ne_eqb x e.decision q)) ∙ ap (λ (y : ℕ). cond (eqb x e.decision || in_list x r.left) 0 y) (sym (chosen_other e es x q)))
-              (cases_eq x e.decision);
-          properly = l.properly;
-        }
-
-    parted_stays : Parted (e ∷ es) (record { culprit = r.culprit; left = r.left; stays = e ∷ r.stays })
-    parted_stays =
-        record {
-          known = l.known;
-          were = λ x t. still x (l.were x t);
-          planned =
-              λ x. ⊎_elim (λ (q : x ≡ e.decision). chosen_here e r.stays x q ∙ sym (cond-false (in_list x r.left) 0 (chosen (e ∷ es) x) (ap (λ (y : ℕ). in_list y r.left) q ∙ apart) ∙ chosen_here e es x q))
-              (λ (q : x ≡ e.decision → ⊥). chosen_other e r.stays x q ∙ l.planned x ∙ ap (λ (y : ℕ). cond (in_list x r.left) 0 y) (sym (chosen_other e es x q)))
-              (cases_eq x e.decision);
-          properly = proper_more e r.stays (record { known = h.known; some = h.some; few = h.few; idle = idle }) l.properly;
-        }
-
     parted_followed : Parted (e ∷ es) (followed e r)
-    parted_followed =
-        cond_both (has_any e.support r.left) (record { culprit = r.culprit; left = e.decision ∷ r.left; stays = r.stays }) (record { culprit = r.culprit; left = r.left; stays = e ∷ r.stays })
-        (Parted (e ∷ es)) (λ _. parted_leaves) (λ _. parted_stays)
+    parted_followed = grind (arith, common_steps)
 
 -- a sweep over a proper trail
 pub swept_parted : (es : List Entry) (place n : ℕ) → proper (entries_of es (suc (place + n))) ≡ true → Parted (entries_of es (suc (place + n))) (swept es place n)
 unfolding swept
-swept_parted es place zero p =
-    let e = entry_of (get_or es place blank) in
-    let q = proper_parts e (entries_of es place) (rw add-zero at p) in
-    rw add-zero (parted_first e (entries_of es place) q.0 q.1)
+swept_parted es place zero p = grind (arith, common_steps)
 swept_parted es place (suc n) p =
     let e = entry_of (get_or es (suc (place + n)) blank) in
     let q = proper_parts e (entries_of es (suc (place + n))) (rw add-suc at p) in
@@ -92,11 +44,7 @@ swept_parted es place (suc n) p =
 pub swept_culprit : (es : List Entry) (place n : ℕ) → (swept es place n).culprit ≡ entry_of (get_or es place blank)
 unfolding swept
 swept_culprit es place zero = refl
-swept_culprit es place (suc n) =
-    let e = entry_of (get_or es (suc (place + n)) blank) in
-    let r = swept es place n in
-    cond_both (has_any e.support r.left) (record { culprit = r.culprit; left = e.decision ∷ r.left; stays = r.stays }) (record { culprit = r.culprit; left = r.left; stays = e ∷ r.stays })
-    (λ (x : Parting). x.culprit ≡ entry_of (get_or es place blank)) (λ _. swept_culprit es place n) (λ _. swept_culprit es place n)
+swept_culprit es place (suc n) = grind (arith, common_steps, swept_culprit es place n)
 
 -- a retreat from a blame, whose latest entry stands at a place, is the sweep from there
 swept_is : (s : Set) (es : List Entry) (place n : ℕ) → s (get_or es place blank).decision ≡ true → ((k : ℕ) → place < k → k < suc (place + n) → s (get_or es k blank).decision ≡ false) → retreat s (entries_of es (suc (place + n))) ≡ Some (swept es place n)

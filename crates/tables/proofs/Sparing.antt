@@ -1,9 +1,8 @@
 -- A pass over the exclusions that takes some of them out.
-use Rattle.std.proofs.Common.{◌≡◌, ℕ, zero, suc, ◌+◌, ◌<◌, ◌≤◌, Bool, true, false, cond, not, ◌&&◌, ◌||◌, eqb, ltb, ◌⊎◌, length, get_or, set, Some, None, Option, sym, refl, ap, ◌∙◌, ap₂, inl, inr, arith, get_or-set_other, get_or-set_same}
-use mathlib.Core.Path.{fun_ext}
-use Rattle.std.proofs.lemmas.Bool.{and_right, cases_eq, cases_lt, cases_order, eq-eqb, le-ltb, lt-ltb, ne_eqb}
+use Rattle.std.proofs.lemmas.Grind.{common_steps}
+use Rattle.std.proofs.Common.{◌≡◌, ℕ, zero, suc, ◌+◌, ◌<◌, ◌≤◌, Bool, false, cond, not, ◌&&◌, ◌||◌, eqb, ltb, length, get_or, set, Some, None, Option, sym, refl, ap, ◌∙◌, inl, inr, arith}
+use Rattle.std.proofs.lemmas.Bool.{and_right, cases_eq, le-ltb, lt-ltb}
 use Rattle.rules.specs.Plans.{Set}
-use Rattle.rules.specs.Refusals.{when}
 use Rattle.account.specs.Accounts.{Exclusion, empty_below}
 use Rattle.account.specs.Changes.{keep_if}
 use Rattle.account.specs.Steps.{is_free}
@@ -13,7 +12,7 @@ use Rattle.sets.proofs.Values.{no_value_above, no_value_zero, values_empty}
 use Rattle.sets.specs.Members.{values}
 use Rattle.sets.specs.Searches.{some_below}
 use Rattle.sets.specs.declared.value_set.ValueSet.{ValueSet}
-use Rattle.tables.specs.Excluded.{exclusions_of, is_excluded, no_value, spared, stored_at}
+use Rattle.tables.specs.Excluded.{exclusions_of, is_excluded, no_value, spared}
 use Rattle.tables.specs.declared.exclusions.Exclusions.{Exclusions}
 use Rattle.tables.proofs.Cells.{not_excluded, past_excluded}
 
@@ -25,19 +24,11 @@ stays keep x d v = not (is_free (keep_if keep (exclusions_of x d v)))
 module _ (t : ℕ → Bool) where
   -- no value is through
   pub filled_none : t 0 ≡ false → (s : ValueSet) → values s ≡ (λ x. false) → values s ≡ (λ x. ltb x 1 && t x)
-  filled_none none s e = e ∙ fun_ext at
-    where
-      at : (x : ℕ) → false ≡ (ltb x 1 && t x)
-      at zero = sym none
-      at (suc x) = sym (ap (λ (b : Bool). b && t (suc x)) (le-ltb (suc x) 1 (omega arith)))
+  filled_none none s e = grind (arith, common_steps)
 
   -- all values are through
   pub filled_all : (s : ValueSet) (v : ℕ) → 17 ≤ v → ((x : ℕ) → 16 < x → t x ≡ false) → values s ≡ (λ x. ltb x v && t x) → values s ≡ t
-  filled_all s v h past before = before ∙ fun_ext (λ (x : ℕ). at x (cases_lt x v))
-    where
-      at : (x : ℕ) → (x < v) ⊎ (v ≤ x) → (ltb x v && t x) ≡ t x
-      at x (inl l) = ap (λ (b : Bool). b && t x) (lt-ltb x v l)
-      at x (inr l) = ap (λ (b : Bool). b && t x) (le-ltb x v l) ∙ sym (past x (omega arith))
+  filled_all s v h past before = grind (arith, common_steps)
 
 module _ (keep : Exclusion → Bool) (x : Exclusions) (d : ℕ) where
   not_staying : (v : ℕ) → is_excluded x d v ≡ false → stays keep x d v ≡ false
@@ -55,35 +46,11 @@ module _ (keep : Exclusion → Bool) (x : Exclusions) (d : ℕ) where
   pub spared_at : (s : ValueSet) → d < 64 → d < length x.excluded → values s ≡ stays keep x d
       → (y w : ℕ) → exclusions_of (record { excluded = set x.excluded d s; resting = x.resting; reasons = x.reasons }) y w ≡ cond (eqb y d) (keep_if keep (exclusions_of x y w)) (exclusions_of x y w)
   unfolding exclusions_of
-  spared_at s h l e y w =
-      elim (cases_eq y d) [
-        | inl same ↦
-            rw same (ap₂ (λ (b : Bool) (z : ValueSet). when (b && values z w) (stored_at x d w)) (lt-ltb d 64 h) (get_or-set_same x.excluded d s no_value l)
-            ∙ ap (λ (f : ℕ → Bool). when (f w) (stored_at x d w)) e ∙ kept_cell (ltb d 64 && is_excluded x d w) (stored_at x d w)
-            ∙ sym (ap (λ (b : Bool). cond b (keep_if keep (exclusions_of x d w)) (exclusions_of x d w)) (eq-eqb d d refl)))
-        | inr other ↦
-            (ap (λ (z : ValueSet). when (ltb y 64 && values z w) (stored_at x y w)) (get_or-set_other x.excluded d y s no_value other)
-            ∙ sym (ap (λ (b : Bool). cond b (keep_if keep (exclusions_of x y w)) (exclusions_of x y w)) (ne_eqb y d other)))
-      ]
-    where
-      kept_cell : (b : Bool) (e : Exclusion) → when (not (is_free (keep_if keep (when b e)))) e ≡ keep_if keep (when b e)
-      kept_cell false e = refl
-      kept_cell true e = at (keep e)
-        where
-          at : (k : Bool) → when (not (is_free (cond k (Some e) None))) e ≡ cond k (Some e) None
-          at true = refl
-          at false = refl
+  spared_at s h l e y w = grind (arith, common_steps)
 
   -- a decision with no excluded value has nothing to spare
   pub spared_none : (get_or x.excluded d no_value).bits ≡ 0 → (y w : ℕ) → exclusions_of x y w ≡ cond (eqb y d) (keep_if keep (exclusions_of x y w)) (exclusions_of x y w)
-  spared_none e y w =
-      elim (cases_eq y d) [
-        | inl same ↦ rw same (none ∙ sym (ap₂ (λ (b : Bool) (o : Option Exclusion). cond b (keep_if keep o) o) (eq-eqb d d refl) none))
-        | inr other ↦ sym (ap (λ (b : Bool). cond b (keep_if keep (exclusions_of x y w)) (exclusions_of x y w)) (ne_eqb y d other))
-      ]
-    where
-      none : exclusions_of x d w ≡ None
-      none = not_excluded x d w (ap (λ (n : ℕ). values (record { bits = n }) w) e ∙ ap (λ (f : ℕ → Bool). f w) values_empty)
+  spared_none e y w = grind (arith, common_steps, not_excluded, values_empty)
 
 -- the decisions below d are through
 abbrev pub Through : (Exclusion → Bool) → (ℕ → ℕ → Option Exclusion) → (ℕ → ℕ → Option Exclusion) → ℕ → Type 0
@@ -92,42 +59,17 @@ Through keep start now d = now ≡ (λ y w. cond (ltb y d) (keep_if keep (start 
 -- one more decision is through
 pub through_more : (keep : Exclusion → Bool) (start now later : ℕ → ℕ → Option Exclusion) (d : ℕ) → Through keep start now d
     → ((y w : ℕ) → later y w ≡ cond (eqb y d) (keep_if keep (now y w)) (now y w)) → Through keep start later (d + 1)
-through_more keep start now later d before one =
-    fun_ext (λ (y : ℕ). fun_ext (λ (w : ℕ). one y w ∙ ap (λ (f : ℕ → ℕ → Option Exclusion). cond (eqb y d) (keep_if keep (f y w)) (f y w)) before ∙ at y (start y w) (cases_order y d)))
-  where
-    pass : Bool → Option Exclusion → Option Exclusion
-    pass b o = cond b (keep_if keep o) o
-
-    at : (y : ℕ) (o : Option Exclusion) → (y ≡ d) ⊎ ((y < d) ⊎ (d < y)) → pass (eqb y d) (pass (ltb y d) o) ≡ pass (ltb y (d + 1)) o
-    at y o (inl same) =
-        ap₂ (λ (a b : Bool). pass a (pass b o)) (eq-eqb y d same) (le-ltb y d (omega arith)) ∙ sym (ap (λ (b : Bool). pass b o) (lt-ltb y (d + 1) (omega arith)))
-    at y o (inr (inl h)) =
-        ap₂ (λ (a b : Bool). pass a (pass b o)) (ne_eqb y d (λ (e : y ≡ d). omega arith)) (lt-ltb y d h) ∙ sym (ap (λ (b : Bool). pass b o) (lt-ltb y (d + 1) (omega arith)))
-    at y o (inr (inr h)) =
-        ap₂ (λ (a b : Bool). pass a (pass b o)) (ne_eqb y d (λ (e : y ≡ d). omega arith)) (le-ltb y d (omega arith))
-        ∙ sym (ap (λ (b : Bool). pass b o) (le-ltb y (d + 1) (omega arith)))
+through_more keep start now later d before one = grind (arith, common_steps)
 
 -- all decisions are through
 pub through_all : (keep : Exclusion → Bool) (x : Exclusions) (now : ℕ → ℕ → Option Exclusion) (d : ℕ) → 64 ≤ d → Through keep (exclusions_of x) now d → now ≡ (λ y w. keep_if keep (exclusions_of x y w))
-through_all keep x now d h before = before ∙ fun_ext (λ (y : ℕ). fun_ext (λ (w : ℕ). at y w (cases_lt y d)))
-  where
-    at : (y w : ℕ) → (y < d) ⊎ (d ≤ y) → cond (ltb y d) (keep_if keep (exclusions_of x y w)) (exclusions_of x y w) ≡ keep_if keep (exclusions_of x y w)
-    at y w (inl l) = ap (λ (b : Bool). cond b (keep_if keep (exclusions_of x y w)) (exclusions_of x y w)) (lt-ltb y d l)
-    at y w (inr l) =
-        ap₂ (λ (b : Bool) (o : Option Exclusion). cond b (keep_if keep o) o) (le-ltb y d l) (past_excluded x y w (omega arith))
-        ∙ sym (ap (keep_if keep) (past_excluded x y w (omega arith)))
+through_all keep x now d h before = grind (arith, common_steps, past_excluded)
 
 -- some of the decisions below a number are in a set, or none is
 some_or_empty : (s : Set) (n : ℕ) → not (some_below s n) ≡ empty_below s n
 unfolding some_below
 some_or_empty s zero = refl
-some_or_empty s (suc n) = at (some_below s n) (s n) ∙ ap (λ (b : Bool). not (s n) && b) (some_or_empty s n)
-  where
-    at : (a b : Bool) → not (a || b) ≡ (not b && not a)
-    at true true = refl
-    at true false = refl
-    at false true = refl
-    at false false = refl
+some_or_empty s (suc n) = grind (arith, common_steps, some_or_empty s n)
 
 -- to have none of the first c decisions is to be empty below c
 pub none_of_first : (s : Set) (c n : ℕ) → c ≤ n → not (some_below (λ x. s x && ltb x c) n) ≡ empty_below s c

@@ -1,4 +1,5 @@
 -- The arrays of a trail while a retreat sweeps over them.
+use Rattle.std.proofs.lemmas.Grind.{common_steps}
 use Rattle.std.proofs.Common.{◌≡◌, ℕ, suc, ◌+◌, ◌-◌, ◌<◌, ◌≤◌, Bool, true, false, cond, ◌&&◌, ◌||◌, eqb, ltb, List, [], ◌∷◌, length, take, get_or, set, Some, sym, refl, ap, ◌∙◌, subst, ⊎_elim, arith}
 use mathlib.Core.Path.{fun_ext}
 use Rattle.std.specs.List.{AllByRecursion}
@@ -116,19 +117,13 @@ module _ (blame : Set) (es : List Entry) (place : ℕ) (l : Latest blame es (Som
   whole = omega (arith, l.0)
 
   parted : Parted (newest_first es) (swept es place (length es - (place + 1)))
-  parted =
-      let P : ℕ → Type 0 = λ k. Parted (entries_of es k) (swept es place (length es - (place + 1))) in
-      subst P whole (swept_parted es place (length es - (place + 1)) (ap (λ (k : ℕ). proper (entries_of es k)) whole ∙ p))
+  parted = grind (arith, common_steps, Parted, whole, swept_parted)
 
   stays_are : newest_first (take n ns) ≡ (swept es place (length es - (place + 1))).stays
   stays_are = entries_taken ns n (omega (arith, few, h.full)) ∙ h.stays
 
   pub sweep_retreats : retreat blame (newest_first es) ≡ Some (record { culprit = entry_of (get_or es place blank); left = (swept es place (length es - (place + 1))).left; stays = newest_first (take n ns) })
-  sweep_retreats =
-      let r = swept es place (length es - (place + 1)) in
-      retreat_some blame es place (length es - (place + 1)) l whole
-      ∙ ap (λ (c : Choice). Some (record { culprit = c; left = r.left; stays = r.stays })) (swept_culprit es place (length es - (place + 1)))
-      ∙ ap (λ (cs : List Choice). Some (record { culprit = entry_of (get_or es place blank); left = r.left; stays = cs })) (sym stays_are)
+  sweep_retreats = grind (arith, common_steps, retreat_some, whole, swept_culprit, stays_are)
 
   pub sweep_known : AllByRecursion (λ (d : ℕ). d < 64) (swept es place (length es - (place + 1))).left
   sweep_known = parted.known

@@ -1,4 +1,5 @@
-use Rattle.std.proofs.Common.{Err, sym, ap, ◌∙◌}
+use Rattle.std.proofs.lemmas.Grind.{common_steps}
+use Rattle.std.proofs.Common.{Err, sym, ap, ◌∙◌, arith}
 use Rattle.std.proofs.lemmas.Result.{err_from_is_err_and}
 use Rattle.planner.specs.Planners.{account_of}
 use Rattle.statements.specs.Views.{left_lines, line_of, on_ok}
@@ -14,9 +15,7 @@ returns-in_err-began g c =
     ∙ lines_stop g.M.Measure.meaning c.loop-line.began (account_of c.loop-line.planner) (line_of c.in-Some.line) (left_lines c.next.new.self) _ c.in_err-began.field-0.0 c.in-Some.ensures.steps.0 (sym c.in_err-began.ensures))
 
 pub loop-line-preserved : goal.loop-line-preserved
-loop-line-preserved g c =
-    c.loop-line.invariant
-    ∙ lines_go_on g.M.Measure.meaning c.loop-line.began (account_of c.loop-line.planner) (line_of c.in-Some.line) (left_lines c.next.new.self) _ _ (account_of c.load_line.new.planner) c.in-Some.ensures.steps.0 (sym c.in_ok-began.ensures)
+loop-line-preserved g c = grind (arith, common_steps, lines_go_on)
 
 pub returns : goal.returns
 returns g c = sym (c.loop-line.invariant ∙ lines_end g.M.Measure.meaning c.loop-line.began (account_of c.loop-line.planner) _ c.in-None.ensures.steps.0.0)

@@ -1,10 +1,9 @@
 use Rattle.std.proofs.Common.{ℕ, sym, refl, ap, ◌∙◌}
 use mathlib.Core.Path.{fun_ext}
-use Rattle.std.proofs.lemmas.Result.{err_from_is_err_and}
 use Rattle.account.proofs.Planning.{planning}
 use Rattle.account.specs.Accounts.{fresh}
 use Rattle.measure.proofs.Laws.{Laws}
-use Rattle.rules.proofs.Grounds.{accepted_none, refused_old}
+use Rattle.rules.proofs.Grounds.{accepted_none}
 use Rattle.rules.specs.Judging.{open_refusal}
 use Rattle.rules.specs.Refusals.{unless_refused}
 use Rattle.tables.proofs.Entering.{zeros}
@@ -25,18 +24,6 @@ laws g =
       associative = g.met.M.Measure.joining_is_associative;
       unit = g.met.M.Measure.joining_neutral_alters_nothing;
       parts = g.met.M.Measure.joined_is_at_least_each_part;
-    }
-
-pub returns-in_err-open : goal.returns-in_err-open
-returns-in_err-open g c =
-    let ds = c.args.decisions.now in
-    let a = account_of c.args.self.now in
-    let p = err_from_is_err_and c.from_residual.result c.from_residual.ensures.1 in
-    let same = c.in_err-open.ensures.after ∙ sym (refused_old (open_refusal ds) _ a.book (over_decisions ds) (sym c.in_err-open.ensures.value)) in
-    record {
-      value = rw (p.1, p.2) c.in_err-open.ensures.value;
-      after = parts_same _ a same refl refl refl refl refl ∙ refused_old (open_refusal ds) _ a (fresh ds) (sym c.in_err-open.ensures.value);
-      law = λ ok. planning g.M.Measure.meaning (laws g) ds ok;
     }
 
 pub returns : goal.returns

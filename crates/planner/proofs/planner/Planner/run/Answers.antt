@@ -1,6 +1,4 @@
-use Rattle.std.proofs.Common.{◌≡◌, ℕ, ap, sym, refl, ◌∙◌, arith}
-use Rattle.account.specs.Calls.{made}
-use Rattle.account.specs.Steps.{advance}
+use Rattle.std.proofs.Common.{sym, refl, ◌∙◌, arith}
 use Rattle.planner.specs.Planners.{account_of}
 use Rattle.planner.proofs.Called.{open_more, not_open, ran_whole}
 use Rattle.planner.proofs.planner.Planner.run.Goals as goal
@@ -23,15 +21,4 @@ returns-then-not-is_open g c =
     let inv = c.loop-made.invariant in
     let (same, count) = not_open m a c.loop-made.made c.args.budget b inv.0 (sym c.if-not-is_open.ensures) (omega arith) in
     let (told, left) = ran_whole m a c.args.budget c.loop-made.made b c.if-budget-gt-MOST_STEPS.false (same, inv.1 ∙ count) in
-    record { value = told; after = left }
-
-pub returns : goal.returns
-returns g c =
-    let m = g.M.Measure.meaning in
-    let a = account_of c.args.self.now in
-    let n = c.args.budget in
-    let inv = c.loop-made.invariant in
-    let all : c.loop-made.made ≡ n = omega arith in
-    let (told, left) =
-    ran_whole m a n n (account_of c.loop-made.self) c.if-budget-gt-MOST_STEPS.false (inv.0 ∙ ap (λ (k : ℕ). advance m k a) all, sym all ∙ inv.1 ∙ ap (λ (k : ℕ). made m k a) all) in
     record { value = told; after = left }

@@ -1,4 +1,5 @@
-use Rattle.std.proofs.Common.{◌≡◌, ◌+◌, ◌-◌, ◌<◌, length, set, refl, ap, ◌∙◌, arith, length-set}
+use Rattle.std.proofs.lemmas.Grind.{common_steps}
+use Rattle.std.proofs.Common.{◌≡◌, ◌+◌, ◌-◌, ◌<◌, length, set, ap, ◌∙◌, arith, length-set}
 use Rattle.rules.specs.Conditions.{from_bytes}
 use Rattle.tables.specs.Excluded.{exclusions_of}
 use Rattle.planner.specs.Books.{book_of}
@@ -7,13 +8,7 @@ use Rattle.planner.proofs.Trying.{tried_none, tried_at, but_choose, but_set}
 use Rattle.planner.proofs.trials.Trials.try_values.Goals as goal
 
 pub loop-v-init : goal.loop-v-init
-loop-v-init g c =
-    record {
-      most = omega arith;
-      wide = c.told-plan;
-      but = λ x ne. refl;
-      tried = tried_none g.M.Measure.meaning (book_of c.args.self.now.book.now) c.args.self.now.best (from_bytes c.args.plan.now) (exclusions_of c.args.exclusions.now) c.args.self.now.domain.decision;
-    }
+loop-v-init g c = grind (arith, common_steps, tried_none)
 
 pub loop-v-preserved : goal.loop-v-preserved
 loop-v-preserved g c =

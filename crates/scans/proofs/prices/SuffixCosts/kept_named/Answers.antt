@@ -1,7 +1,5 @@
-use Rattle.std.proofs.Common.{ℕ, ◌+◌, Bool, ◌||◌, drop, sym, ap, ◌∙◌, ap₂, arith}
-use mathlib.Core.Bool.{or-false}
-use mathlib.Core.Path.{fun_ext}
-use Rattle.std.proofs.lemmas.List.{at_drop_all}
+use Rattle.std.proofs.lemmas.Grind.{common_steps}
+use Rattle.std.proofs.Common.{◌+◌, Bool, ◌||◌, drop, sym, ap, ◌∙◌, ap₂, arith}
 use Rattle.account.specs.Steps.{kept, named_in}
 use Rattle.rules.specs.Conditions.{from_bytes}
 use Rattle.sets.specs.Members.{members}
@@ -30,10 +28,4 @@ loop-i-preserved g c x =
 
 pub returns : goal.returns
 unfolding kept
-returns g c =
-    let m = g.M.Measure.meaning in
-    let set = members c.loop-i.set in
-    fun_ext (λ (x : ℕ).
-    sym (or-false (set x))
-    ∙ ap (λ (b : Bool). set x || b) (sym (at_drop_all (λ rs. named_in (kept m c.args.best c.loop-i.before rs (from_bytes c.args.plan.now)) x) c.args.rows.now c.loop-i.i c.loop-i-test.false))
-    ∙ c.loop-i.invariant x)
+returns g c = grind (arith, common_steps)

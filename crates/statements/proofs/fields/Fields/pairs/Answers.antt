@@ -1,5 +1,5 @@
-use Rattle.std.proofs.Common.{◌≡◌, ℕ, ◌≤◌, List, length, Err, sym, ap, ◌∙◌, arith, rules}
-use Rattle.std.proofs.lemmas.List.{length-take}
+use Rattle.std.proofs.lemmas.Grind.{common_steps}
+use Rattle.std.proofs.Common.{◌≡◌, ℕ, List, Err, sym, ap, ◌∙◌, arith, rules}
 use Rattle.std.proofs.lemmas.Result.{err_from_is_err_and}
 use Rattle.reading.specs.Cursors.{column, left}
 use Rattle.statements.specs.Forms.{pair_of}
@@ -19,6 +19,4 @@ returns-in_err-pair c =
     ap (on_ok pairs_of) p.1 ∙ ap Err p.2 ∙ sym (c.loop-field.invariant ∙ bad_pair n (column it) (pairs_of c.loop-field.pairs) f _ (left c.next.new.self) c.in_err-pair.field-0.0 took.first bad)
 
 pub returns : goal.returns
-returns c =
-    let few : length (pairs_of c.loop-field.pairs) ≤ 5 = omega (arith, length-take c.loop-field.pairs.count c.loop-field.pairs.list, c.loop-field.pairs.few) in
-    sym (c.loop-field.invariant ∙ no_pair _ _ (pairs_of c.loop-field.pairs) _ c.in-None.ensures.steps.0 few)
+returns c = grind (arith, common_steps, no_pair)
