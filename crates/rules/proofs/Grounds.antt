@@ -1,7 +1,6 @@
 -- What an answer tells of the grounds of refusal behind it.
-use Rattle.std.proofs.Common.{◌≡◌, Bool, true, false, Some, None, Ok, Err, Option, sym, refl, ap}
-use Rattle.rules.specs.Refusals.{when, or_else, as_result, unless_refused}
-use Rattle.rules.specs.declared.refusal.Refusal.{Refusal}
+use Rattle.std.proofs.Common.{◌≡◌, Bool, true, false, Some, None, Ok, Err, Option, refl}
+use Rattle.rules.specs.Refusals.{when, or_else, as_result}
 
 pub refused_some : {E : Type 0} (o : Option E) (e : E) → as_result o ≡ Err e → o ≡ Some e
 refused_some (Some f) e h = cc
@@ -10,10 +9,6 @@ refused_some None e h = cc
 pub accepted_none : {E : Type 0} (o : Option E) (u : Unit {0}) → as_result o ≡ Ok u → o ≡ None
 accepted_none (Some f) u h = cc
 accepted_none None u h = refl
-
--- a refused call leaves the old
-pub refused_old : {X : Type 0} (o : Option Refusal) (e : Refusal) (old new : X) → as_result o ≡ Err e → old ≡ unless_refused o old new
-refused_old o e old new h = sym (ap (λ (x : Option Refusal). unless_refused x old new) (refused_some o e h))
 
 pub when_none : {X : Type 0} (b : Bool) (x : X) → when b x ≡ None → b ≡ false
 when_none true x h = cc

@@ -1,4 +1,3 @@
-pub mod Costs
 pub mod Gathered
 pub mod Enabling
 pub mod Naming
