@@ -19,7 +19,7 @@ use Rattle.account.specs.declared.state.State.TheVariants.{Open, Settled}
 use Rattle.account.proofs.Meeting.{met_nothing}
 use Rattle.account.proofs.Prices.{cost_unmet, cost_more}
 use Rattle.account.proofs.Sound.{Good, Known, Sound}
-use Rattle.account.proofs.Tested.{none_some, some_same}
+use Rattle.std.proofs.lemmas.Option.{none-some, same_Some}
 use Rattle.account.proofs.Trails.{chosen_known}
 
 -- what has none of the decisions below n has none of them
@@ -30,7 +30,7 @@ empty_below_lem s (suc n) x h l t =
     ⊎_elim (λ (q : x ≡ n). both_ways (s n) (not-true (s n) parts.0) (rw q at t)) (λ (ne : x ≡ n → ⊥). empty_below_lem s n x parts.1 (omega arith) t) (cases_eq x n)
 
 keep_if_some : (test : Exclusion → Bool) (o : Option Exclusion) (e : Exclusion) → keep_if test o ≡ Some e → (o ≡ Some e) × (test e ≡ true)
-keep_if_some test None e h = absurd (none_some e h)
+keep_if_some test None e h = absurd (none-some e h)
 keep_if_some test (Some f) e h = grind (arith, common_steps)
 
 pub open_settled : Open ≡ Settled → ⊥
@@ -99,7 +99,7 @@ module _ {C : Type 0} (m : Meaning C) (a : Account C) (s : Sound m a) (fs ts ps 
 
 module _ {C : Type 0} where
   unless_met_some : (r : Row) (o : Option (Best C)) (b : Best C) → unless_met r o ≡ Some b → (o ≡ Some b) × (met b.plan r ≡ false)
-  unless_met_some r None b h = absurd (none_some b h)
+  unless_met_some r None b h = absurd (none-some b h)
   unless_met_some r (Some c) b h = grind (arith, common_steps)
 
   unless_met_same : (r : Row) (o : Option (Best C)) → best_meets o r ≡ false → unless_met r o ≡ o
@@ -107,12 +107,12 @@ module _ {C : Type 0} where
   unless_met_same r (Some c) h = rw h refl
 
   if_lawful_some : (b : Book) (o : Option (Best C)) (best : Best C) → if_lawful b o ≡ Some best → (o ≡ Some best) × (is_lawful b best.plan ≡ true)
-  if_lawful_some b None best h = absurd (none_some best h)
+  if_lawful_some b None best h = absurd (none-some best h)
   if_lawful_some b (Some c) best h = grind (arith, common_steps)
 
   repriced_some : (m : Meaning C) (ps : List Row) (o : Option (Best C)) (b : Best C) → repriced m ps o ≡ Some b → (c : Best C) × (o ≡ Some c) × (b ≡ record { plan = c.plan; cost = cost m ps c.plan })
-  repriced_some m ps None b h = absurd (none_some b h)
-  repriced_some m ps (Some c) b h = (c, refl, sym (some_same (record { plan = c.plan; cost = cost m ps c.plan }) b h))
+  repriced_some m ps None b h = absurd (none-some b h)
+  repriced_some m ps (Some c) b h = (c, refl, sym (same_Some (record { plan = c.plan; cost = cost m ps c.plan }) b h))
 
 -- what a best that meets the rule may not carry does not rest on it
 unmet_if_rests : (x y : Bool) → not (x && y) ≡ true → y ≡ true → x ≡ false

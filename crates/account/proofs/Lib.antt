@@ -20,3 +20,5 @@ pub mod Changed
 pub mod Histories
 pub mod Reports
 pub mod Planning
+pub mod Following
+pub mod Bounds

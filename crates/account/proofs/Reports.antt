@@ -18,7 +18,7 @@ use Rattle.account.specs.declared.state.State.{State}
 use Rattle.account.specs.declared.state.State.TheVariants.{Open, Settled}
 use Rattle.account.proofs.Changed.{lawful_idle}
 use Rattle.account.proofs.Sound.{Beaten, Sound}
-use Rattle.account.proofs.Tested.{none_some, some_same}
+use Rattle.std.proofs.lemmas.Option.{none-some, same_Some}
 
 -- a plan that is idle behind the last decision is the plan of what is written of it
 pub plan_written : (n : ℕ) (p : Plan) (buffer : List ℕ) → ((d : ℕ) → n ≤ d → p d ≡ 0) → plan_of n (written n p buffer) ≡ p
@@ -63,11 +63,11 @@ module _ {C : Type 0} (m : Meaning C) (a : Account C) where
     best_is_lawful ds same buffer bytes t c h = go a.best refl (told buffer bytes t (Some c) h).1
       where
         go : (o : Option (Best C)) → a.best ≡ o → Told (length a.book.decisions) buffer o (Some c) bytes → Lawful a.book (plan_of (length ds) bytes) × (c ≡ cost m a.book.prices (plan_of (length ds) bytes))
-        go None e k = absurd (none_some c (sym k))
+        go None e k = absurd (none-some c (sym k))
         go (Some b) e k =
             let good = s.best_good b e in
             let plan : plan_of (length ds) bytes ≡ b.plan = ap (λ (n : ℕ). plan_of n bytes) (ap length (sym same)) ∙ ap (plan_of (length a.book.decisions)) k.1 ∙ plan_written (length a.book.decisions) b.plan buffer (lawful_idle a.book b.plan good.lawful) in
-            (subst (Lawful a.book) (sym plan) good.lawful, some_same c b.cost k.0 ∙ good.costs ∙ ap (cost m a.book.prices) (sym plan))
+            (subst (Lawful a.book) (sym plan) good.lawful, same_Some c b.cost k.0 ∙ good.costs ∙ ap (cost m a.book.prices) (sym plan))
 
     pub exclusions_are_true : (d v : ℕ) (e : Exclusion) → answer m a (exclusion d v) ≡ excluded (Some e) → (p : Plan) → Lawful a.book p → p d ≡ v → Agrees p (chosen a.trail) e.reason → RulesOut m a e.rests p
     exclusions_are_true d v e h = s.barred d v e (told_excluded d v e h)
@@ -80,14 +80,14 @@ module _ {C : Type 0} (m : Meaning C) (a : Account C) where
       where
         go : (o : Option (Best C)) → Told (length a.book.decisions) buffer o (Some c) bytes → Beaten m a.book o p → m.at_most c (cost m a.book.prices p) ≡ true
         go None t beaten = absurd beaten
-        go (Some b) t beaten = rw (some_same c b.cost t.0) beaten
+        go (Some b) t beaten = rw (same_Some c b.cost t.0) beaten
 
     pub none : (buffer bytes : List ℕ) (c : Option C) → answer m a (best buffer) ≡ reported Settled c bytes → (c ≡ None) ↔ ((p : Plan) → Lawful a.book p → ⊥)
     none buffer bytes c h = let k = told buffer bytes Settled c h in (λ e p law. idle p a.best k.1 e (s.settled k.0 p law), λ never. nothing a.best refl k.1 never)
       where
         idle : (p : Plan) (o : Option (Best C)) → Told (length a.book.decisions) buffer o c bytes → c ≡ None → Beaten m a.book o p → ⊥
         idle p None t e beaten = beaten
-        idle p (Some b) t e beaten = none_some b.cost (sym e ∙ t.0)
+        idle p (Some b) t e beaten = none-some b.cost (sym e ∙ t.0)
 
         nothing : (o : Option (Best C)) → a.best ≡ o → Told (length a.book.decisions) buffer o c bytes → ((p : Plan) → Lawful a.book p → ⊥) → c ≡ None
         nothing None e t never = t

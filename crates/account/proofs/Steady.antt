@@ -16,7 +16,8 @@ use Rattle.account.proofs.Finds.{picked, waits_idle, Free, smallest, reasons_of,
 use Rattle.account.proofs.Prices.{price_bars, at_most_itself}
 use Rattle.account.proofs.Shapes.{dead_end, tested_formed, dead_end_within, price_within, entered_formed}
 use Rattle.account.proofs.Sound.{Good, Beaten, Sound, blame_sound}
-use Rattle.account.proofs.Tested.{New, given_bars, given_within, given_rests, tested_some, tested_none, some_same}
+use Rattle.account.proofs.Tested.{New, given_bars, given_within, given_rests, tested_some, tested_none}
+use Rattle.std.proofs.lemmas.Option.{same_Some}
 use Rattle.account.proofs.Trails.{chosen_here, chosen_other}
 
 module _ {C : Type 0} (m : Meaning C) (laws : Laws m) where
@@ -125,7 +126,7 @@ module _ {C : Type 0} (m : Meaning C) (laws : Laws m) where
             unforbidden = s.unforbidden;
             barred = λ d v e h p law has agrees. still e.rests p (s.barred d v e h p law has agrees);
             resting = λ d v e h r. (best, refl);
-            best_good = λ b q. rw (← some_same best b q) c.is_good;
+            best_good = λ b q. rw (← same_Some best b q) c.is_good;
             settled = λ e p law. c.no_worse p (s.settled e p law);
           }
         where

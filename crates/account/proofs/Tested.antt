@@ -3,6 +3,7 @@ use Rattle.std.proofs.lemmas.Grind.{common_steps}
 use Rattle.std.proofs.Common.{◌≡◌, ℕ, ◌<◌, ◌≤◌, Bool, true, false, not, ◌&&◌, eqb, leb, ◌⊎◌, Some, None, Option, sym, refl, inl, inr, ⊎_elim, arith}
 use Rattle.std.specs.List.{ContainsAt as Has, AllByRecursion}
 use Rattle.std.proofs.ByRecursion.{all-has}
+use Rattle.std.proofs.lemmas.Option.{none-some}
 use Rattle.std.proofs.lemmas.Bool.{cases_eq, and_parts, and_from, both_ways, eqb-true, eqb-false, eq-eqb, ne_eqb, not-true, not_from_false, leb-true, le-leb}
 use Rattle.measure.specs.Meaning.{Meaning}
 use Rattle.measure.proofs.Laws.{Laws}
@@ -16,12 +17,6 @@ use Rattle.account.specs.Steps.{choose, first_met, price_reason, by_forbid, by_p
 use Rattle.account.proofs.Finds.{First, first_met_lem}
 use Rattle.account.proofs.Meeting.{met_same, met_chosen}
 use Rattle.account.proofs.Prices.{price_chosen, price_bars}
-
-pub none_some : {X : Type 0} (x : X) → None ≡ Some x → ⊥
-none_some x h = let z : ◌≡◌ {A = ℕ} 0 1 = cc in omega arith
-
-pub some_same : {X : Type 0} (x y : X) → Some x ≡ Some y → x ≡ y
-some_same x y h = cc
 
 -- what a set without one decision has
 pub except_parts : (s : Set) (d x : ℕ) → except s d x ≡ true → (s x ≡ true) × (x ≡ d → ⊥)
@@ -109,7 +104,7 @@ module _ {C : Type 0} (m : Meaning C) (a : Account C) (d : ℕ) where
     where
       go : (t : Bool) → (eqb x d && is_value (size_at a.book.decisions d) v) ≡ t → (o : Option Exclusion) → tested_at m a d v t o ≡ Some e → (o ≡ Some e) ⊎ New x v e
       go t q (Some f) g = inl g
-      go false q None g = absurd (none_some e g)
+      go false q None g = absurd (none-some e g)
       go true q None g =
           let parts = and_parts (eqb x d) (is_value (size_at a.book.decisions d) v) q in
           let range = and_parts (leb 1 v) (leb v (size_at a.book.decisions d)) parts.1 in
@@ -128,7 +123,7 @@ module _ {C : Type 0} (m : Meaning C) (a : Account C) (d : ℕ) where
     where
       go : (o : Option Exclusion) → tested_at m a d v true o ≡ None → (o ≡ None) × AllByRecursion (λ r. met (choose (chosen a.trail) d v) r ≡ false) a.book.forbids
       go None g = (refl, rw g at (given m a d (choose (chosen a.trail) d v)))
-      go (Some e) g = absurd (none_some e (sym g))
+      go (Some e) g = absurd (none-some e (sym g))
 
   -- elsewhere nothing changes
   pub tested_other : (x v : ℕ) → (x ≡ d → ⊥) → tested m a d x v ≡ a.exclusions x v

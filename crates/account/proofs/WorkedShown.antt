@@ -2,7 +2,7 @@
 use Rattle.std.proofs.Common.{refl}
 use Rattle.account.specs.Changes.{added, withdrawn}
 use Rattle.account.specs.Steps.{step, test, tested, kept, retreat, extend, conclude}
-use Rattle.account.specs.Worked.{PlansShown, SearchesShown, ChangesShown, SmallestShown, PitfallsShown, AllShown}
+use Rattle.account.specs.Worked.{PlansShown, VerdictsShown, SearchesShown, ChangesShown, SmallestShown, PitfallsShown, AllShown}
 
 plans_shown : PlansShown
 unfolding step test tested kept retreat extend conclude added withdrawn
@@ -13,6 +13,21 @@ plans_shown =
       active_idle = refl;
       lawful = refl;
       priced = refl;
+    }
+
+verdicts_shown : VerdictsShown
+verdicts_shown =
+    record {
+      costs = refl;
+      not_active = refl;
+      not_chosen = refl;
+      out_of_range = refl;
+      decision_first = refl;
+      forbidden = refl;
+      second_met = refl;
+      both_met = refl;
+      further_byte = refl;
+      byte_less = refl;
     }
 
 searches_shown : SearchesShown
@@ -71,4 +86,4 @@ pitfalls_shown =
     }
 
 pub all_shown : AllShown
-all_shown = record { plans = plans_shown; searches = searches_shown; changes = changes_shown; smallest = smallest_shown; pitfalls = pitfalls_shown }
+all_shown = record { plans = plans_shown; verdicts = verdicts_shown; searches = searches_shown; changes = changes_shown; smallest = smallest_shown; pitfalls = pitfalls_shown }

@@ -7,3 +7,4 @@ pub mod Law
 pub mod Worked
 pub mod Edges
 pub mod Snapshots
+pub mod Consequences

@@ -1,5 +1,6 @@
 -- Worked cases: small books with the answers that a planner gives over them. All follow by computing from the definitions.
-use Rattle.std.specs.Prelude.{◌≡◌, ℕ, nat_le, Bool, true, false, ◌&&◌, List, [], ◌∷◌, ◌++◌, Some, None, Option, refl}
+use Rattle.std.specs.Prelude.{◌≡◌, ℕ, nat_le, Bool, true, false, ◌&&◌, List, [], ◌∷◌, ◌++◌, Some, None, Ok, Err, Option, Result, refl}
+use Rattle.std.specs.List.{flat_map}
 use Rattle.std.proofs.Common.{ap, lit≤}
 use Rattle.std.proofs.Math.Dec.{leb-zero}
 use Rattle.measure.specs.Meaning.{Meaning}
@@ -10,13 +11,19 @@ use Rattle.measure.specs.declared.price.Price.{Price}
 use Rattle.rules.specs.Compose.{ascends, composed, free, in_range, is_exact}
 use Rattle.rules.specs.Conditions.{plan_of}
 use Rattle.rules.specs.Plans.{Book, is_lawful, cost}
+use Rattle.rules.specs.Verdicts.{answer_of}
 use Rattle.rules.specs.declared.decision.Decision.{Decision}
 use Rattle.rules.specs.declared.literal.Literal.{Literal}
+use Rattle.rules.specs.declared.refusal.Refusal.{Refusal}
+use Rattle.rules.specs.declared.refusal.Refusal.TheVariants.{ShortPlan}
 use Rattle.rules.specs.declared.row.Kind.{Kind}
 use Rattle.rules.specs.declared.row.Kind.TheVariants.{Forbid, Activate, Price as Priced}
+use Rattle.rules.specs.declared.row.Row.{Row}
 use Rattle.rules.specs.declared.rule.Rule.{Rule}
+use Rattle.rules.specs.declared.verdict.Breach.{Breach}
+use Rattle.rules.specs.declared.verdict.Breach.TheVariants.{NotActive, NotChosen, OutOfRange, Forbidden}
 use Rattle.account.specs.Accounts.{fresh}
-use Rattle.account.specs.Calls.{Call, Answer, add, withdraw, run, best, exclusion, ran, reported, excluded, answer, history}
+use Rattle.account.specs.Calls.{Call, Answer, add, withdraw, rank, run, best, exclusion, unexcluded, ran, reported, excluded, answer, history}
 use Rattle.account.specs.Steps.{rests_on}
 use Rattle.account.specs.declared.state.State.TheVariants.{Open, Settled}
 
@@ -101,6 +108,36 @@ pub record PlansShown : Type 0 where
   pub lawful : is_lawful book (plan_of 3 (2 ∷ 0 ∷ 3 ∷ [])) ≡ true
   pub priced : cost cents book.prices (plan_of 3 (2 ∷ 0 ∷ 3 ∷ [])) ≡ record { sum = 75 }
 
+-- the rows of the rules that calls add
+abbrev pub rows_of : Call → List Row
+rows_of (add r) = r.row ∷ []
+rows_of (withdraw k place) = []
+rows_of (rank d n) = []
+rows_of (run budget) = []
+rows_of (best buffer) = []
+rows_of (exclusion d v) = []
+rows_of (unexcluded d) = []
+
+-- what judge answers of a plan by the worked book's rules and some more
+abbrev pub judges : List Call → List ℕ → Result (Result Cents Breach) Refusal
+judges more bytes = answer_of cents decisions (flat_map rows_of (rules ++ more)) bytes
+
+-- what judge tells first: the first decision at fault, then the first met forbid rule, then the cost
+pub record VerdictsShown : Type 0 where
+  pub costs : judges [] (2 ∷ 0 ∷ 3 ∷ []) ≡ Ok (Ok (record { sum = 75 }))
+  pub not_active : judges [] (3 ∷ 2 ∷ 3 ∷ []) ≡ Ok (Err (NotActive 1))
+  pub not_chosen : judges [] (1 ∷ 0 ∷ 4 ∷ []) ≡ Ok (Err (NotChosen 1))
+  pub out_of_range : judges [] (1 ∷ 3 ∷ 0 ∷ []) ≡ Ok (Err (OutOfRange 1))
+  -- that 1=1 goes not with 2=3 comes behind any decision at fault
+  pub decision_first : judges [] (2 ∷ 1 ∷ 3 ∷ []) ≡ Ok (Err (NotActive 1))
+  -- a place counts forbid rules alone, and the first met is told
+  pub forbidden : judges [] (1 ∷ 1 ∷ 3 ∷ []) ≡ Ok (Err (Forbidden 0))
+  pub second_met : judges (forbid (pair 0 2) ∷ []) (2 ∷ 0 ∷ 3 ∷ []) ≡ Ok (Err (Forbidden 1))
+  pub both_met : judges (forbid (pair 0 1) ∷ []) (1 ∷ 1 ∷ 3 ∷ []) ≡ Ok (Err (Forbidden 0))
+  -- further bytes are no part of a plan; a byte less is refused
+  pub further_byte : judges [] (2 ∷ 0 ∷ 3 ∷ 9 ∷ []) ≡ Ok (Ok (record { sum = 75 }))
+  pub byte_less : judges [] (2 ∷ 0 ∷ []) ≡ Err ShortPlan
+
 -- searches of the worked book
 pub record SearchesShown : Type 0 where
   -- in cents the search settles with its 15th step, at 60; a buffer's further bytes stay
@@ -179,6 +216,7 @@ pub record PitfallsShown : Type 0 where
 -- all worked cases
 pub record AllShown : Type 0 where
   pub plans : PlansShown
+  pub verdicts : VerdictsShown
   pub searches : SearchesShown
   pub changes : ChangesShown
   pub smallest : SmallestShown

@@ -1,6 +1,7 @@
 //! The account of a planner's calls, and the law of planning over whole lists of them.
 #![tactic(auto)]
 
+ghost use Rattle.account.specs.Consequences.{BoundsShown, Consequences};
 ghost use Rattle.account.specs.Law.{LawfulIsTested, Planning};
 ghost use Rattle.account.specs.Edges.{EdgesShown};
 ghost use Rattle.account.specs.Snapshots.{SnapshotsShown};
@@ -8,13 +9,27 @@ ghost use Rattle.account.specs.Worked.{AllShown};
 
 mod state;
 
-use measure::Measure;
+use measure::{Cents, Measure};
 pub use state::State;
 
 /// The planning law holds for every measure that keeps the laws.
 pub fn planning_law<M: Measure>()
     ensures { Planning M.meaning }
 {}
+
+/// What follows from the planning law, told in other words.
+pub fn planning_consequences<M: Measure>()
+    ensures { Consequences M.meaning }
+{
+    planning_law::<M>();
+}
+
+/// What searches of small books tell of all plans over them.
+pub fn worked_bounds()
+    ensures { BoundsShown }
+{
+    planning_law::<Cents>();
+}
 
 /// The worked cases come out as they are stated.
 pub fn worked_cases()

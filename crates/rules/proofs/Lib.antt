@@ -12,3 +12,4 @@ pub mod Ascending
 pub mod Misfits
 pub mod ByKind
 pub mod Verdicts
+pub mod WorkedOut

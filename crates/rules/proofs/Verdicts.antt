@@ -29,7 +29,7 @@ row_target : (ds : List Decision) (r : Row) → row_refusal ds r ≡ None → is
 row_target ds r h a = grind (arith, common_steps)
 
 -- the targets of accepted activate rows are known
-targets_known : (ds : List Decision) (rs : List Row) → rows_refusal ds rs ≡ None → Targets (length ds) (activates rs)
+pub targets_known : (ds : List Decision) (rs : List Row) → rows_refusal ds rs ≡ None → Targets (length ds) (activates rs)
 targets_known ds [] h = tt
 targets_known ds (r ∷ rs) h =
     let (here, later) = or_else_none (row_refusal ds r) (rows_refusal ds rs) h in

@@ -4,3 +4,4 @@ pub mod Compose
 pub mod Plans
 pub mod Judging
 pub mod Searches
+pub mod Verdicts

@@ -3,6 +3,7 @@ ghost use Rattle.std.specs.Prelude.{◌≡◌, ◌&&◌, length, None, filter, f
 ghost use Rattle.rules.specs.Compose.{is_forbid, is_price};
 ghost use Rattle.rules.specs.Conditions.{from_bytes, met};
 ghost use Rattle.rules.specs.Judging.{Answered, Judged, book_of, open_refusal, rows_refusal};
+ghost use Rattle.rules.specs.Verdicts.{WorkedOut};
 
 use crate::checks::{check_decisions, check_rows};
 use crate::{ActivateKind, Breach, Decision, Refusal, Row, Verdict, check_choices};
@@ -65,3 +66,8 @@ pub fn judge<M: Measure>(
     let plan = &plan[0..decisions.len()];
     Ok(verdict(decisions, rows, plan))
 }
+
+/// What `judge` answers can be worked out: it is the one answer that its promise allows.
+pub fn answers_are_worked_out<M: Measure>()
+    ensures { WorkedOut M.meaning }
+{}

@@ -23,7 +23,7 @@ pub use checks::{MOST_DECISIONS, MOST_PAIRS, MOST_RULES, MOST_VALUES, check_deci
 pub use choices::check_choices;
 pub use counting::{ActivateKind, Counting, EachRow};
 pub use decision::Decision;
-pub use judging::judge;
+pub use judging::{answers_are_worked_out, judge};
 pub use literal::{Literal, value_of};
 pub use refusal::{Layer, Refusal};
 pub use row::{Kind, Row};
