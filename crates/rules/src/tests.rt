@@ -118,3 +118,19 @@ fn what_the_kind_lacks_is_zero(rt: HostRuntime) {
     assert_eq!(rt; rule.row().target, 0);
     assert_eq!(rt; rule.row().price.tier, 2);
 }
+
+#[test]
+fn defaults_are_blank(rt: HostRuntime) {
+    let blank = Row {
+        kind: Kind::Forbid,
+        count: 0,
+        pairs: [Literal {
+            decision: 0,
+            value: 0,
+        }; 4],
+        target: 0,
+        price: Price { tier: 0, cents: 0 },
+    };
+    assert_eq!(rt; Row::default(), blank);
+    assert_eq!(rt; Decision::default(), Decision { size: 0, on: false });
+}
