@@ -5,7 +5,8 @@
     damaged.py list     prints the cases by number, with their names and what is said of them
 
 stdin has a frame for each book: a header line `LENGTH TIMES`, then LENGTH bytes. The book is these bytes, TIMES
-times over. stdout has one line for each book: `accepted`, or the text of the fault.
+times over. A frame states numbers up to 131,072; a larger one ends the reading. stdout has one line for each book:
+`accepted`, or the text of the fault.
 
 A case here has a name, what is said of it, and its bytes. What is said was written down by hand; the script stops
 if the oracle says otherwise.
@@ -35,6 +36,7 @@ LARGEST = SIZE_16 + 256 * LONG_F + 256 * LONG_A + 256 * LONG_P
 CASES = [
     # --- accepted ---
     ("the empty text", OK, b"", 1),
+    ("the empty text, as often as a frame can state", OK, b"", 131072),
     ("one decision", OK, b"D 1 on\n", 1),
     ("the worked book", OK, THREE + b"F 1=1 2=3\nA 1 0=1\nA 2 0=1\nA 2 0=2\nP 0 40 0=1\nP 0 70 0=2\nP 1 60 0=3\n"
      b"P 0 30 1=1\nP 0 45 1=2\nP 0 25 2=1\nP 0 15 2=2\nP 0 5 2=3\n", 1),
@@ -320,7 +322,8 @@ CASES = [
 
 
 def frames():
-    return b"".join(b"%d %d\n" % (len(text), times) + text for _, _, text, times in CASES)
+    # At the end a frame of a number that no frame states, and one behind it: neither is read.
+    return b"".join(b"%d %d\n" % (len(text), times) + text for _, _, text, times in CASES) + b"0 131073\n0 1\n"
 
 
 def main(words):

@@ -4,3 +4,4 @@ pub mod SearchLaws
 pub mod BitLaws
 pub mod Decisions
 pub mod Values
+pub mod SetsShown

@@ -3,9 +3,17 @@
 //! longer.
 #![tactic(auto)]
 
+ghost use Rattle.sets.specs.Shown.{SetsShown};
+
 mod decision_set;
 mod first_bits;
 mod value_set;
 
 pub use decision_set::DecisionSet;
 pub use value_set::ValueSet;
+
+/// Small sets by their bits: which decisions and values are in them, and what is found in them.
+#[tactic(auto, using(crate::proofs::SetsShown::sets_shown))]
+pub fn small_sets()
+    ensures { SetsShown }
+{}

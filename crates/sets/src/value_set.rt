@@ -6,7 +6,7 @@ ghost use Rattle.sets.specs.Searches.{smallest_outside, count_outside};
 use crate::first_bits::first_bits;
 
 /// A set of the values 1 to 16: value `v` is in it where bit `v - 1` is set.
-#[derive(Clone, Copy, Debug, Default, PartialEq, Eq)]
+#[derive(Clone, Copy, Debug, PartialEq, Eq)]
 pub struct ValueSet {
     pub bits: u16,
 }
@@ -20,7 +20,6 @@ fn is_value(v: u8) -> bool
 
 impl ValueSet {
     /// The set of no value.
-    // Not `default`: `empty` promises that there are no members.
     pub fn empty() -> ValueSet
         ensures { values result ≡ (λ x. false) }
     {
