@@ -1,6 +1,7 @@
 -- Small texts: loaded and planned, by computing; of the runs, only those steps are computed that are made until the plan is settled.
-use Rattle.std.proofs.Common.{◌≡◌, ℕ, zero, suc, ◌+◌, ◌<◌, Bool, false, ltb, List, [], ◌∷◌, length, Ok, replicate, refl, sym, ap, ◌∙◌, zero-add}
+use Rattle.std.proofs.Common.{◌≡◌, ℕ, zero, suc, ◌+◌, ◌<◌, Bool, false, ltb, List, [], ◌∷◌, length, Ok, replicate, refl, sym, ap, ◌∙◌, zero-add, lit≤}
 use Rattle.std.proofs.lemmas.Bool.{lt-ltb}
+use Rattle.std.proofs.lemmas.Option.{none-some}
 use Rattle.std.specs.Fmt.{digits}
 use Rattle.measure.specs.Meaning.{Meaning}
 use Rattle.measure.specs.Supplied.{cents, pair_of, tier}
@@ -8,7 +9,7 @@ use Rattle.measure.specs.declared.cents.Cents.{Cents}
 use Rattle.measure.specs.declared.pair.Pair.{Pair}
 use Rattle.measure.specs.declared.tier.Tier.{Tier}
 use Rattle.rules.specs.Refusals.{when}
-use Rattle.rules.specs.declared.refusal.Refusal.TheVariants.{BookTooLarge, BudgetTooLarge}
+use Rattle.rules.specs.declared.refusal.Refusal.TheVariants.{BookTooLarge, BudgetTooLarge, UnknownValue}
 use Rattle.account.specs.Accounts.{Account, fresh}
 use Rattle.account.specs.Calls.{after, after_if, history, run}
 use Rattle.account.specs.Changes.{added}
@@ -22,10 +23,10 @@ use Rattle.statements.specs.Fields.{first_bad}
 use Rattle.statements.specs.Forms.{pair_of as pair_read}
 use Rattle.statements.specs.Lines.{numbered}
 use Rattle.statements.specs.Statements.{read_activate, read_decision, read_forbid, read_line, read_pairs, read_price}
-use Rattle.rendering.specs.Texts.{choice_line, fault_line, outcome_text}
+use Rattle.rendering.specs.Texts.{choice_line, decision_line, fault_line, outcome_text, pair_text, parts_line}
 use Rattle.book.specs.Loads.{load_lines, loaded}
 use Rattle.book.specs.Outcomes.{account_text, after_runs, planned_text}
-use Rattle.book.specs.Shown.{LoadsShown, PlansShown, TextsPlanned, faulty, hopeless, planned, read, worked}
+use Rattle.book.specs.Shown.{LeavingsShown, LoadsShown, PlansShown, TextsPlanned, WordsShown, faulty, hopeless, planned, read, worked}
 
 loads_shown : LoadsShown
 unfolding loaded load_lines numbered first_bad number_up_to pair_read pieces read_activate read_decision read_forbid read_line read_pairs read_price added
@@ -84,5 +85,18 @@ plans_shown =
       refused = refl;
     }
 
+leavings_shown : LeavingsShown
+unfolding loaded load_lines numbered first_bad number_up_to pieces read_decision read_line added digits pair_text decision_line parts_line
+leavings_shown = record { loaded_broken = refl; planned_broken = refl; written = refl }
+
+words_shown : WordsShown
+unfolding added
+words_shown =
+    record {
+      largest_size = lit≤ tt;
+      largest_pair = ((lit≤ tt, lit≤ tt), tt);
+      refused = λ h. none-some UnknownValue (sym h.1.0);
+    }
+
 pub texts_planned : TextsPlanned
-texts_planned = record { loads = loads_shown; plans = plans_shown }
+texts_planned = record { loads = loads_shown; plans = plans_shown; leavings = leavings_shown; words = words_shown }

@@ -1,18 +1,21 @@
 -- Small texts, each with what it is loaded as or its fault, and with the text of its plan.
-use Rattle.std.specs.Prelude.{◌≡◌, ℕ, ◌<◌, List, [], ◌∷◌, length, Ok, Err, codes, Result}
+use Rattle.std.specs.Prelude.{◌≡◌, ℕ, ◌<◌, List, [], ◌∷◌, length, Ok, Err, codes, Result, refl}
 use Rattle.measure.specs.Supplied.{cents, pair_of, tier}
 use Rattle.measure.specs.declared.cents.Cents.{Cents}
+use Rattle.rules.specs.Compose.{free}
 use Rattle.rules.specs.Plans.{Book}
 use Rattle.rules.specs.declared.refusal.Refusal.{Refusal}
 use Rattle.rules.specs.declared.refusal.Refusal.TheVariants.{SizeOutOfRange, PairCount, UnknownDecision, UnknownValue, NotAscending, CentsTooLarge, UnknownLine, MalformedField, FieldCount, DecisionAfterRule, BookTooLarge}
-use Rattle.account.specs.Accounts.{Account}
-use Rattle.account.specs.Worked.{book}
-use Rattle.rendering.specs.Texts.{ended}
+use Rattle.rules.specs.declared.row.Kind.TheVariants.{Forbid}
+use Rattle.account.specs.Accounts.{Account, fresh}
+use Rattle.account.specs.Worked.{book, forbid, on, pair, ruled}
+use Rattle.rendering.specs.Texts.{book_text, ended}
 use Rattle.statements.specs.Statements.{fault}
 use Rattle.statements.specs.Views.{on_ok}
 use Rattle.statements.specs.declared.fault.Fault.{Fault}
-use Rattle.book.specs.Loads.{loaded}
-use Rattle.book.specs.Outcomes.{plan_text}
+use Rattle.book.specs.Laws.{Accepted, BytePaired, ByteSized, rows_of}
+use Rattle.book.specs.Loads.{left_by, loaded}
+use Rattle.book.specs.Outcomes.{plan_text, planned_by}
 
 -- the book that a text is loaded as, or its fault
 abbrev pub read : List ℕ → Result Book Fault
@@ -64,7 +67,28 @@ pub record PlansShown : Type 0 where
   pub hopeless_book : planned hopeless ≡ ended (codes "none" ∷ [])
   pub refused : planned (ended (codes "D 1 on" ∷ codes "F 0=1 1" ∷ [])) ≡ ended (codes "refused 13 text 2 7" ∷ [])
 
+-- a text whose second line is faulty
+abbrev pub broken : List ℕ
+broken = ended (codes "D 2 on" ∷ codes "X" ∷ [])
+
+-- what a refused text leaves, and what is written of a book
+pub record LeavingsShown : Type 0 where
+  -- nothing is left of the lines before the fault
+  pub loaded_broken : left_by (loaded cents broken) ≡ fresh []
+  pub planned_broken : planned_by (pair_of tier cents) (loaded (pair_of tier cents) broken) ≡ fresh []
+  -- forbid rules are written first, then activate rules, then price rules
+  pub written : book_text book.decisions (rows_of book) ≡ worked
+
+-- what the words of the laws take in and leave out
+pub record WordsShown : Type 0 where
+  pub largest_size : ByteSized (on 255)
+  pub largest_pair : BytePaired (ruled Forbid (pair 255 255) 0 free refl)
+  -- calls of which the second is refused are not all accepted
+  pub refused : Accepted cents (fresh (on 1 ∷ [])) (forbid (pair 0 1) ∷ forbid (pair 0 2) ∷ []) → ⊥
+
 -- all of them
 pub record TextsPlanned : Type 0 where
   pub loads : LoadsShown
   pub plans : PlansShown
+  pub leavings : LeavingsShown
+  pub words : WordsShown
