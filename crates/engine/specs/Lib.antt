@@ -1,0 +1,3 @@
+pub mod Stated
+pub mod Answered
+pub mod Views
