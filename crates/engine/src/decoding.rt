@@ -1,91 +1,91 @@
-//! Reading a book of bytes into a planner.
-use crate::fault::Fault;
+//! What the bytes of a book state.
+ghost use Rattle.std.specs.Prelude.{◌≡◌, ◌≤◌, length, option_map};
+ghost use Rattle.engine.specs.Stated.{decision_in, decisions_in, kind_in, mark_in, pairs_in, price_in, row_in};
+
 use arrayvec::ArrayVec;
-use measure::{Cents, Price};
-use planner::Planner;
-use rules::{Decision, Kind, Literal, MOST_DECISIONS, Rule};
+use measure::Price;
+use rules::{Decision, Kind, Literal, MOST_PAIRS, Row};
+
+/// The most decisions that a byte can count.
+pub const MOST_STATED: usize = 255;
 
 /// Whether a mark states that a decision is on. The C interface writes a number for it.
-fn is_on(mark: u8) -> Result<bool, Fault> {
+fn is_on(mark: u8) -> Option<bool>
+    ensures { result ≡ mark_in mark }
+{
     match mark {
-        0 => Ok(false),
-        1 => Ok(true),
-        _ => Err(Fault::Malformed),
+        0 => Some(false),
+        1 => Some(true),
+        _ => None,
     }
 }
 
-/// Opens a planner over decisions, each a size and a mark.
-fn read_decisions(planner: &mut Planner<Cents>, stated: &[[u8; 2]]) -> Result<(), Fault> {
-    let mut decisions = ArrayVec::<Decision, MOST_DECISIONS>::new();
-    for [size, mark] in stated {
-        let decision = Decision {
-            size: *size,
-            on: is_on(*mark)?,
-        };
-        decisions.try_push(decision).map_err(|_| Fault::Malformed)?;
+/// The decision that a size and a mark state.
+fn decision_of(stated: &[u8; 2]) -> Option<Decision>
+    ensures { result ≡ decision_in stated.now }
+{
+    let [size, mark] = *stated;
+    let on = is_on(mark)?;
+    Some(Decision { size, on })
+}
+
+/// The decisions that are stated, each by a size and a mark.
+pub fn decisions_of(stated: &[[u8; 2]]) -> Option<ArrayVec<Decision, MOST_STATED>>
+    requires few { length stated.now ≤ 255 }
+    ensures { option_map (λ ds. ds.items) result ≡ decisions_in stated.now }
+{
+    let mut decisions = ArrayVec::new();
+    for pair in stated {
+        decisions.push(decision_of(pair)?);
     }
-    planner.open(decisions.as_slice())?;
-    Ok(())
+    Some(decisions)
 }
 
 /// The kind of rule that a byte states. The C interface writes a number for it.
-fn kind_of(byte: u8) -> Result<Kind, Fault> {
+fn kind_of(byte: u8) -> Option<Kind>
+    ensures { result ≡ kind_in byte }
+{
     match byte {
-        0 => Ok(Kind::Forbid),
-        1 => Ok(Kind::Activate),
-        2 => Ok(Kind::Price),
-        _ => Err(Fault::Malformed),
+        0 => Some(Kind::Forbid),
+        1 => Some(Kind::Activate),
+        2 => Some(Kind::Price),
+        _ => None,
     }
 }
 
-/// Adds the rule that a record states.
-fn read_rule(planner: &mut Planner<Cents>, record: &[u8; 16]) -> Result<(), Fault> {
-    let [
-        kind,
-        count,
-        d0,
-        v0,
-        d1,
-        v1,
-        d2,
-        v2,
-        d3,
-        v3,
-        target,
-        tier,
-        c0,
-        c1,
-        c2,
-        c3,
-    ] = *record;
-    let pairs = [(d0, v0), (d1, v1), (d2, v2), (d3, v3)].map(|(decision, value)| Literal {
-        decision,
-        value,
-    });
-    let price = Price {
+/// The four pairs of a record, those in use first.
+fn pairs_of(bytes: &[u8; 16]) -> [Literal; MOST_PAIRS]
+    ensures { result ≡ pairs_in bytes.now }
+{
+    let [_, _, d0, v0, d1, v1, d2, v2, d3, v3, ..] = *bytes;
+    [(d0, v0), (d1, v1), (d2, v2), (d3, v3)].map(|(decision, value)| Literal { decision, value })
+}
+
+/// The price of a record.
+fn price_of(bytes: &[u8; 16]) -> Price
+    ensures { result ≡ price_in bytes.now }
+{
+    let [.., tier, c0, c1, c2, c3] = *bytes;
+    Price {
         tier,
         cents: u32::from_le_bytes([c0, c1, c2, c3]),
-    };
-    let kind = kind_of(kind)?;
-    let stated = pairs.get(0..usize::from(count)).ok_or(Fault::Malformed)?;
-    planner.add(&Rule::of(kind, stated, target, price)?)?;
-    Ok(())
+    }
 }
 
-/// Opens a planner over the decisions of a book, and adds its rules.
-pub fn read_book(planner: &mut Planner<Cents>, book: &[u8]) -> Result<(), Fault> {
-    let (count, behind) = book.split_first().ok_or(Fault::Malformed)?;
-    let (decisions, rules) = behind
-        .split_at_checked(2 * usize::from(*count))
-        .ok_or(Fault::Malformed)?;
-    let (records, rest) = rules.as_chunks::<16>();
-    if !rest.is_empty() {
-        return Err(Fault::Malformed);
+/// The row that a record states, as it stands there: the planner has yet to see whether it makes a rule.
+pub fn row_of(bytes: &[u8; 16]) -> Option<Row>
+    ensures { result ≡ row_in bytes.now }
+{
+    let kind = kind_of(bytes[0])?;
+    let count = bytes[1];
+    if usize::from(count) > MOST_PAIRS {
+        return None;
     }
-    let (stated, _) = decisions.as_chunks::<2>();
-    read_decisions(planner, stated)?;
-    for record in records {
-        read_rule(planner, record)?;
-    }
-    Ok(())
+    Some(Row {
+        kind,
+        count,
+        pairs: pairs_of(bytes),
+        target: bytes[10],
+        price: price_of(bytes),
+    })
 }

@@ -1,0 +1,4 @@
+pub mod Framing
+pub mod Reading
+pub mod Calling
+pub mod BooksShown
