@@ -2,6 +2,7 @@ pub mod Carries
 pub mod Fitting
 pub mod Holding
 pub mod Sizes
+pub mod Rooms
 pub mod LoadedBack
 pub mod LoadSteps
 pub mod Telling

@@ -36,7 +36,8 @@ pub spaced_short : (n : ℕ) (fs : List (List ℕ)) → AllByRecursion (Shorter 
 spaced_short n [] h = omega arith
 spaced_short n (f ∷ fs) h = omega (arith, length-append f (spaced fs), spaced_short n fs h.1, h.0, add-mul 1 (length fs) n)
 
-byte_short : (n : ℕ) → n ≤ 255 → length (decimal n) ≤ 3
+-- a byte has at most 3 digits
+pub byte_short : (n : ℕ) → n ≤ 255 → length (decimal n) ≤ 3
 byte_short n h = length-decimal-le 3 n (omega arith) (omega arith) (omega arith)
 
 pair_short : (l : Literal) → (l.decision ≤ 255) × (l.value ≤ 255) → Shorter 11 (pair_text l)

@@ -9,6 +9,7 @@ use Rattle.measure.specs.Meaning.{Meaning}
 use Rattle.measure.specs.declared.cents.Cents.{Cents}
 use Rattle.measure.specs.declared.pair.Pair.{Pair}
 use Rattle.measure.specs.declared.tier.Tier.{Tier}
+use Rattle.rules.specs.declared.decision.Decision.{Decision}
 use Rattle.account.specs.Accounts.{Account, Best}
 use Rattle.account.specs.Calls.{answer, best, report, reported, written}
 use Rattle.account.specs.declared.state.State.{State}
@@ -30,5 +31,6 @@ reported_text s t n buffer bytes c (Some b) e =
     ∙ ap (outcome_text s (Some b.cost))
     (ap (take n) w ∙ take_at (map b.plan (range_with_len 0 n)) (drop n buffer) n (length-map-range_with_len b.plan 0 n))
 
-pub reports : (m : Meaning (Pair Tier Cents)) (a : Account (Pair Tier Cents)) (buffer bytes : List ℕ) (t : State) (c : Option (Pair Tier Cents)) → reported t c bytes ≡ answer m a (best buffer) → outcome_text t c (take (length a.book.decisions) bytes) ≡ account_text a
-reports m a buffer bytes t c e = grind (arith, common_steps, best, reported_text)
+-- of a cost and decisions that are known
+pub reports : (m : Meaning (Pair Tier Cents)) (a : Account (Pair Tier Cents)) (buffer bytes : List ℕ) (t : State) (c d : Option (Pair Tier Cents)) (ds : List Decision) → reported t c bytes ≡ answer m a (best buffer) → c ≡ d → ds ≡ a.book.decisions → outcome_text t d (take (length ds) bytes) ≡ account_text a
+reports m a buffer bytes t c d ds e h k = grind (arith, common_steps, best, reported_text)

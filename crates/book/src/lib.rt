@@ -9,7 +9,7 @@ mod shown;
 mod texts;
 
 pub use loading::{MOST_BYTES, ROOM, load};
-pub use outcome::write_outcome;
+pub use outcome::{OUTCOME_ROOM, write_outcome};
 pub use planning::plan_book;
 pub use shown::small_texts;
-pub use texts::{write, write_fault};
+pub use texts::{FAULT_ROOM, write, write_fault};

@@ -1,12 +1,12 @@
 //! Planning a book from its text to the text of its plan.
-ghost use Rattle.std.specs.Prelude.{◌≡◌};
+ghost use Rattle.std.specs.Prelude.{◌≡◌, ◌≤◌, length};
 ghost use Rattle.measure.specs.Supplied.{cents, pair_of, tier};
 ghost use Rattle.planner.specs.Planners.{account_of};
 ghost use Rattle.rendering.specs.Fills.{counted, filled};
 ghost use Rattle.book.specs.Loads.{loaded};
 ghost use Rattle.book.specs.Outcomes.{after_runs, plan_text, planned_by};
 
-use crate::{load, write_fault, write_outcome};
+use crate::{OUTCOME_ROOM, load, write_fault, write_outcome};
 use measure::TierThenCents;
 use planner::Planner;
 use rules::Refusal;
@@ -29,8 +29,8 @@ fn run_long(planner: &mut Planner<TierThenCents>)
 }
 
 /// Loads a book, makes 100 runs of up to 100,000 steps, and writes the text of the outcome or of the fault. Answers the
-/// byte count; later bytes stay. Refuses a buffer that is too short, which then stays as it was; the planner has been
-/// loaded and run by then.
+/// byte count; later bytes stay. Refuses a buffer that is too short, as `OUTCOME_ROOM` bytes never are; it then stays as
+/// it was, and the planner has been loaded and run by then.
 pub fn plan_book(
     planner: &mut Planner<TierThenCents>,
     text: &[u8],
@@ -38,6 +38,7 @@ pub fn plan_book(
 ) -> Result<usize, Refusal>
     ensures value { result ≡ counted (plan_text (pair_of tier cents) text.now) buffer.old }
     ensures after { buffer.new ≡ filled (plan_text (pair_of tier cents) text.now) buffer.old }
+    ensures short { length (plan_text (pair_of tier cents) text.now) ≤ OUTCOME_ROOM }
     ensures planned { account_of planner.new ≡ planned_by (pair_of tier cents) (loaded (pair_of tier cents) text.now) }
 {
     match load(planner, text) {
@@ -45,6 +46,6 @@ pub fn plan_book(
             run_long(planner);
             write_outcome(planner, buffer)
         }
-        Err(fault) => write_fault(&fault, buffer),
+        Err(fault) => write_fault(fault, buffer),
     }
 }

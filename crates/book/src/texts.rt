@@ -1,5 +1,5 @@
 //! The texts of books and faults.
-ghost use Rattle.std.specs.Prelude.{◌≡◌, ◌++◌};
+ghost use Rattle.std.specs.Prelude.{◌≡◌, ◌≤◌, ◌++◌, length};
 ghost use Rattle.planner.specs.Planners.{account_of};
 ghost use Rattle.rendering.specs.Fills.{counted, filled};
 ghost use Rattle.rendering.specs.Texts.{book_text, fault_text};
@@ -10,6 +10,9 @@ use planner::Planner;
 use rendering::{BookText, Text};
 use rules::{Kind, Refusal};
 use statements::Fault;
+
+/// Room for the text of any fault.
+pub const FAULT_ROOM: usize = 64;
 
 /// What the book of a planner states.
 fn stated<M: Measure>(planner: &Planner<M>) -> BookText<'_>
@@ -37,10 +40,12 @@ pub fn write<M: Measure>(planner: &Planner<M>, buffer: &mut [u8]) -> Result<usiz
 }
 
 /// Writes the text of a fault, `refused` with its number, layer, line and column, and answers the byte count; later
-/// bytes stay. Refuses a buffer that is too short, which then stays as it was.
-pub fn write_fault(fault: &Fault, buffer: &mut [u8]) -> Result<usize, Refusal>
-    ensures value { result ≡ counted (fault_text fault.now.refusal fault.now.line fault.now.column) buffer.old }
-    ensures after { buffer.new ≡ filled (fault_text fault.now.refusal fault.now.line fault.now.column) buffer.old }
+/// bytes stay. Refuses a buffer that is too short, as `FAULT_ROOM` bytes never are; it then stays as it was.
+#[tactic(auto, using(crate::proofs::Rooms::fault_short))]
+pub fn write_fault(fault: Fault, buffer: &mut [u8]) -> Result<usize, Refusal>
+    ensures value { result ≡ counted (fault_text fault.refusal fault.line fault.column) buffer.old }
+    ensures after { buffer.new ≡ filled (fault_text fault.refusal fault.line fault.column) buffer.old }
+    ensures short { length (fault_text fault.refusal fault.line fault.column) ≤ FAULT_ROOM }
 {
     fault.fill(buffer)
 }

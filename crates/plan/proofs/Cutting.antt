@@ -36,6 +36,6 @@ module _ (m : Meaning (Pair Tier Cents)) where
       go false e = ap (loaded m) (take_all 65537 text (omega (arith, ltb-false 65536 (length text) e)))
 
   -- so the plan of what is read is the plan of all that there is
-  pub planned_whole : (known : Option (List ℕ)) (text answer : List ℕ) (n : ℕ) → IfSome known (λ bytes. text ≡ take 65537 bytes) → take n answer ≡ plan_text m text → IfSome known (λ bytes. take n answer ≡ plan_text m bytes)
-  planned_whole None text answer n read plan = tt
-  planned_whole (Some bytes) text answer n read plan = plan ∙ ap (plan_text m) read ∙ ap (planned_text m) (cut_loads bytes)
+  pub planned_whole : (known : Option (List ℕ)) (text plan : List ℕ) → IfSome known (λ bytes. text ≡ take 65537 bytes) → plan ≡ plan_text m text → IfSome known (λ bytes. plan ≡ plan_text m bytes)
+  planned_whole None text plan read is = tt
+  planned_whole (Some bytes) text plan read is = is ∙ ap (plan_text m) read ∙ ap (planned_text m) (cut_loads bytes)
