@@ -41,7 +41,8 @@ fn read_rules(planner: &mut Planner<Cents>, records: &[[u8; 16]]) -> Result<(), 
     Ok(())
 }
 
-/// Opens a planner over the decisions of a book, and adds its rules.
+/// Opens a planner over the decisions of a book, and adds its rules. With a fault nothing is said of the planner, which
+/// is then let go.
 pub fn read_book(planner: &mut Planner<Cents>, book: &[u8]) -> Result<(), Fault>
     ensures { on_ok (λ u. account_of planner.new) result ≡ loaded cents book.now }
 {
