@@ -26,7 +26,7 @@ module _ (law : Planning cents) where
   unfolding step test tested kept retreat extend conclude added withdrawn
   worked_bound p h =
       let f = (consequences cents law decisions (lit≤ tt) ((lit≤ tt, lit≤ tt), ((lit≤ tt, lit≤ tt), ((lit≤ tt, lit≤ tt), tt))) (rules ++ run 15 ∷ []) []).0 in
-      leb-true 60 (cost cents book.prices p).sum (f.cheapest (0 ∷ 0 ∷ 0 ∷ []) (3 ∷ 0 ∷ 0 ∷ []) (record { sum = 60 }) refl p h)
+      leb-true 60 (cost cents book.prices p).sum (f.cheapest (record { sum = 60 }) (0 ∷ 0 ∷ 0 ∷ [], 3 ∷ 0 ∷ 0 ∷ [], refl) p h)
 
   abbrev trap_book : List Decision
   trap_book = on 2 ∷ off 1 ∷ []
@@ -42,7 +42,7 @@ module _ (law : Planning cents) where
   unfolding step test tested kept retreat extend conclude added withdrawn
   trap_bound p h has =
       let f = (consequences cents law trap_book (lit≤ tt) ((lit≤ tt, lit≤ tt), ((lit≤ tt, lit≤ tt), tt)) (trap ++ run 9 ∷ []) []).0 in
-      f.barred 0 1 trap_excluded refl refl p h no_reason has
+      f.barred 0 1 trap_excluded refl refl p (record { lawful = h; has = has; agrees = no_reason })
     where
       no_reason : (x : ℕ) → trap_excluded.reason x ≡ true → p x ≡ chosen trap_after.trail x
       no_reason x t = absurd (none_named (eqb x 0) (eqb x 1) t)
@@ -51,7 +51,7 @@ module _ (law : Planning cents) where
   unfolding step test tested kept retreat extend conclude added withdrawn
   hopeless_bound p h =
       let f = (consequences cents law (on 1 ∷ []) (lit≤ tt) ((lit≤ tt, lit≤ tt), tt) (forbid (pair 0 1) ∷ run 5 ∷ []) []).0 in
-      f.hopeless (9 ∷ []) (9 ∷ []) refl p h
+      f.hopeless (9 ∷ [], 9 ∷ [], refl) p h
 
   pub bounds_shown : BoundsShown
   bounds_shown = record { worked = worked_bound; trapped = trap_bound; hopeless = hopeless_bound }

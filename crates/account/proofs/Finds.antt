@@ -1,11 +1,12 @@
 -- What each part of a step finds, by its outcome.
 use Rattle.std.proofs.lemmas.Grind.{common_steps}
 use Rattle.std.proofs.Common.{◌≡◌, ℕ, zero, suc, ◌<◌, ◌≤◌, Bool, true, false, cond, not, ◌&&◌, ◌||◌, eqb, ltb, ◌⊎◌, List, [], ◌∷◌, Some, None, Option, refl, ⊎_elim, arith}
+use Rattle.std.specs.Option.{option_or}
 use Rattle.std.specs.List.{ContainsAt as Has, AllByRecursion}
 use Rattle.std.proofs.lemmas.Bool.{cond_both, cases_eq, and_parts, and_cases, or_cases, or_left, or_right, both_ways, eq-eqb, not-true, not-false, ltb-false, ltb-true}
 use Rattle.rules.specs.Conditions.{Plan, names, condition, met}
 use Rattle.rules.specs.Plans.{Book, Set, enables, on_at}
-use Rattle.rules.specs.Refusals.{when, or_else}
+use Rattle.rules.specs.Refusals.{when}
 use Rattle.rules.specs.declared.row.Row.{Row}
 use Rattle.account.specs.Accounts.{Exclusion, nobody}
 use Rattle.account.specs.Steps.{waits, prefer, pick, enabled_by, support, first_met, is_free, smallest_free, reason_of, rests_on, reasons, any_rests}
@@ -105,7 +106,7 @@ pub smallest : (ex : ℕ → Option Exclusion) (n : ℕ) → Free ex n (smallest
 smallest ex zero = λ v l u. absurd (omega arith)
 smallest ex (suc n) = go (smallest_free ex n) (smallest ex n) (ex (suc n)) refl
   where
-    go : (o : Option ℕ) → Free ex n o → (x : Option Exclusion) → ex (suc n) ≡ x → Free ex (suc n) (or_else o (when (is_free x) (suc n)))
+    go : (o : Option ℕ) → Free ex n o → (x : Option Exclusion) → ex (suc n) ≡ x → Free ex (suc n) (option_or o (when (is_free x) (suc n)))
     go (Some v) h x q = (h.0, omega (arith, h.1), h.2)
     go None h None q = (omega arith, omega arith, q)
     go None h (Some e) q = λ v l u. ⊎_elim (λ (s : v ≡ suc n). (e, rw s q)) (λ (ne : v ≡ suc n → ⊥). h v l (omega arith)) (cases_eq v (suc n))

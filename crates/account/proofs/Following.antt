@@ -2,15 +2,15 @@
 use Rattle.std.proofs.Common.{◌≡◌, ℕ, ◌+◌, ◌^◌, ◌<◌, ◌≤◌, Bool, true, cond, leb, List, [], ◌∷◌, ◌++◌, length, Some, None, sum_by, Option, sym, refl, ap, ◌∙◌, subst, arith}
 use Rattle.std.proofs.lemmas.Bool.{and_from, le-leb, le-ltb}
 use Rattle.std.proofs.lemmas.List.Sorted.{sum_by-IsPermutation}
-use Rattle.std.proofs.lemmas.Option.{same_Some}
+use Rattle.std.proofs.lemmas.Option.{none-some, same_Some}
 use Rattle.std.specs.List.{AllByRecursion}
 use Rattle.measure.specs.Meaning.{Meaning}
 use Rattle.rules.specs.Judging.{has_size, open_refusal, sized}
 use Rattle.rules.specs.Plans.{cost}
 use Rattle.rules.specs.declared.decision.Decision.{Decision}
-use Rattle.account.specs.Accounts.{Account, Best, fresh}
+use Rattle.account.specs.Accounts.{Account, Best, Exclusion, fresh}
 use Rattle.account.specs.Calls.{Call, best, run, made, ran, reported, answer, after, history, steps_since, tally}
-use Rattle.account.specs.Consequences.{Alike, Consequences, Follows}
+use Rattle.account.specs.Consequences.{Beside, Consequences, Excluded, Follows, Reordered, Reports}
 use Rattle.account.specs.Law.{Kept, OneCost, Planning, PlanningLaw, RulesOut, same_rule}
 use Rattle.account.specs.Changes.{held}
 use Rattle.account.specs.Steps.{advance}
@@ -48,8 +48,13 @@ module _ {C : Type 0} (m : Meaning C) where
     kept_of cs = (law_of cs []).every_list
 
     -- a best that is told is the one that is held
-    held_cost : (a : Account C) (b : Best C) → a.best ≡ Some b → (buffer bytes : List ℕ) (s : State) (c : C) → answer m a (best buffer) ≡ reported s (Some c) bytes → b.cost ≡ c
-    held_cost a b is buffer bytes s c h = let t = subst (λ (o : Option (Best C)). Told (length a.book.decisions) buffer o (Some c) bytes) is (told m a buffer bytes s (Some c) h).1 in same_Some b.cost c (sym t.0)
+    held_cost : (a : Account C) (b : Best C) → a.best ≡ Some b → (s : State) (c : C) → Reports m a s (Some c) → b.cost ≡ c
+    held_cost a b is s c (buffer, bytes, h) =
+        let t = subst (λ (o : Option (Best C)). Told (length a.book.decisions) buffer o (Some c) bytes) is (told m a buffer bytes s (Some c) h).1 in same_Some b.cost c (sym t.0)
+
+    held_told : (a : Account C) (b : Best C) → a.best ≡ Some b → (s : State) → Reports m a s None → ⊥
+    held_told a b is s (buffer, bytes, h) =
+        let t = subst (λ (o : Option (Best C)). Told (length a.book.decisions) buffer o None bytes) is (told m a buffer bytes s None h).1 in none-some b.cost t.0
 
     long_run_lem : (cs : List Call) (budget : ℕ) → (sum_by (λ (d : Decision). d.size) ds + 2) ^ (length ds + 1) < budget → budget ≤ 1000000 → (k : ℕ) × (answer m (history m (fresh ds) cs) (run budget) ≡ ran k Settled)
     long_run_lem cs budget over most =
@@ -66,19 +71,24 @@ module _ {C : Type 0} (m : Meaning C) where
         let a = history m (fresh ds) cs in
         let costs = costs_of cs in
         let kept = kept_of cs in
+        let out : (r : Bool) (d v : ℕ) (e : Exclusion) → Excluded m a d v e → e.rests ≡ r → (p : Plan) → Beside m a d v e p → RulesOut m a r p =
+            λ r d v e h rests p b. subst (λ (x : Bool). RulesOut m a x p) rests (kept.exclusions_are_true d v e h p b.lawful b.has b.agrees) in
         record {
-          cheapest = costs.least;
-          hopeless = λ buffer bytes h. (costs.none buffer bytes None h).0 refl;
-          barred = λ d v e h rests p law agrees has. subst (λ (r : Bool). RulesOut m a r p) rests (kept.exclusions_are_true d v e h p law has agrees);
+          cheapest = λ c t. costs.least t.0 t.1 c t.2;
+          hopeless = λ t. (costs.none t.0 t.1 None t.2).0 refl;
+          barred = out false;
           beaten =
-              λ d v e h rests buffer bytes s c k p law agrees has.
-              let out : RulesOut m a true p = subst (λ (r : Bool). RulesOut m a r p) rests (kept.exclusions_are_true d v e h p law has agrees) in
-              subst (λ (x : C). m.at_most x (cost m a.book.prices p) ≡ true) (held_cost a out.0 out.1 buffer bytes s c k) out.2;
+              λ d v e h rests s c t p b.
+              let beats = out true d v e h rests p b in
+              subst (λ (x : C). m.at_most x (cost m a.book.prices p) ≡ true) (held_cost a beats.0 beats.1 s c t) beats.2;
+          best_is_held = λ d v e h rests s t. let best = kept.resting_needs_a_best d v e h rests in held_told a best.0 best.1 s t;
           long_run = long_run_lem cs;
         }
 
-    alike : (cs cs' : List Call) → Alike m (history m (fresh ds) cs) (history m (fresh ds) cs')
-    alike cs cs' same = ((law_of cs cs').two_lists (λ k r. sym (sum_by-IsPermutation (λ s. cond (same_rule r s) 1 0) (held (history m (fresh ds) cs).book k) (held (history m (fresh ds) cs').book k) (same k)))).same
+    one_cost : (cs cs' : List Call) → Reordered m (history m (fresh ds) cs) (history m (fresh ds) cs') → (c c' : Option C) → Reports m (history m (fresh ds) cs) Settled c → Reports m (history m (fresh ds) cs') Settled c' → c ≡ c'
+    one_cost cs cs' same c c' t t' =
+        ((law_of cs cs').two_lists (λ k r. sym (sum_by-IsPermutation (λ s. cond (same_rule r s) 1 0) (held (history m (fresh ds) cs).book k) (held (history m (fresh ds) cs').book k) (same k)))).same
+        t.0 t'.0 t.1 t'.1 c c' t.2 t'.2
 
   pub consequences : Planning m → Consequences m
-  consequences law ds few sizes cs cs' = (follows law ds few sizes cs, alike law ds few sizes cs cs')
+  consequences law ds few sizes cs cs' = (follows law ds few sizes cs, one_cost law ds few sizes cs cs')

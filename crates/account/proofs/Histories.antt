@@ -13,7 +13,7 @@ use Rattle.rules.specs.declared.row.Kind.{Kind}
 use Rattle.rules.specs.declared.row.Kind.TheVariants.{Forbid, Activate, Price}
 use Rattle.rules.specs.declared.row.Row.{Row}
 use Rattle.rules.specs.declared.rule.Rule.{Rule}
-use Rattle.rules.proofs.Grounds.{or_else_none}
+use Rattle.rules.proofs.Grounds.{option_or_none}
 use Rattle.account.specs.Accounts.{Account, chosen, fresh}
 use Rattle.account.specs.Calls.{Call, add, withdraw, rank, run, best, exclusion, unexcluded, refusal, leaves, after, history}
 use Rattle.account.specs.Changes.{added, withdrawn}
@@ -83,7 +83,7 @@ module _ {C : Type 0} (m : Meaning C) where
 
   module _ (laws : Laws m) where
     leaves_sound : (a : Account C) (c : Call) → Sound m a → refusal a c ≡ None → Sound m (leaves m a c)
-    leaves_sound a (add r) s h = added_sound m laws a s r.row.kind r.row (rule_some r) (target_known a.book.decisions r.row (or_else_none _ _ h).0)
+    leaves_sound a (add r) s h = added_sound m laws a s r.row.kind r.row (rule_some r) (target_known a.book.decisions r.row (option_or_none _ _ h).0)
     leaves_sound a (withdraw k n) s h = withdrawn_sound m laws a s k n
     leaves_sound a (rank d n) s h = grind (arith, common_steps)
     leaves_sound a (run n) s h = advance_sound m laws n a s

@@ -1,6 +1,7 @@
 -- What the test of a value finds, and what the exclusions say after it.
 use Rattle.std.proofs.lemmas.Grind.{common_steps}
 use Rattle.std.proofs.Common.{◌≡◌, ℕ, ◌<◌, ◌≤◌, Bool, true, false, not, ◌&&◌, eqb, leb, ◌⊎◌, Some, None, Option, sym, refl, inl, inr, ⊎_elim, arith}
+use Rattle.std.specs.Option.{option_or}
 use Rattle.std.specs.List.{ContainsAt as Has, AllByRecursion}
 use Rattle.std.proofs.ByRecursion.{all-has}
 use Rattle.std.proofs.lemmas.Option.{none-some}
@@ -9,7 +10,7 @@ use Rattle.measure.specs.Meaning.{Meaning}
 use Rattle.measure.proofs.Laws.{Laws}
 use Rattle.rules.specs.Conditions.{Plan, names, condition, met}
 use Rattle.rules.specs.Plans.{Set, Lawful, cost, size_at}
-use Rattle.rules.specs.Refusals.{when, or_else}
+use Rattle.rules.specs.Refusals.{when}
 use Rattle.rules.specs.declared.row.Row.{Row}
 use Rattle.account.specs.Accounts.{Account, Exclusion, Best, chosen, except, has_any}
 use Rattle.account.specs.Law.{RulesOut}
@@ -61,7 +62,7 @@ module _ {C : Type 0} (m : Meaning C) (a : Account C) (d : ℕ) (p : Plan) where
   unfolding test
   given = go (first_met a.book.forbids p) (first_met_lem a.book.forbids p)
     where
-      go : (o : Option Row) → First a.book.forbids p o → Given (or_else (by_forbid d o) (by_price m a.book d p a.best))
+      go : (o : Option Row) → First a.book.forbids p o → Given (option_or (by_forbid d o) (by_price m a.book d p a.best))
       go None h = by_price_lem h a.best refl
       go (Some r) h = inl (record { row = r; is_met = h.0; is_held = h.1; is = refl })
 

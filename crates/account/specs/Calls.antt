@@ -1,11 +1,12 @@
 -- The calls on a planner as data: what each refuses, answers and leaves.
 use Rattle.std.specs.Prelude.{ℕ, zero, suc, ◌+◌, Bool, true, false, cond, not, ◌&&◌, List, [], ◌∷◌, ◌++◌, map, length, drop, Some, None, Option, ◌==◌, nat_le, nat_lt}
+use Rattle.std.specs.Option.{option_or}
 use Rattle.std.specs.List.{range_with_len}
 use Rattle.measure.specs.Meaning.{Meaning}
 use Rattle.rules.specs.Conditions.{Plan}
 use Rattle.rules.specs.Judging.{row_refusal}
 use Rattle.rules.specs.Plans.{size_at}
-use Rattle.rules.specs.Refusals.{when, or_else}
+use Rattle.rules.specs.Refusals.{when}
 use Rattle.rules.specs.declared.refusal.Refusal.{Refusal}
 use Rattle.rules.specs.declared.refusal.Refusal.TheVariants.{UnknownDecision, UnknownValue, TableFull, NoSuchRule, BudgetTooLarge, ShortPlan}
 use Rattle.rules.specs.declared.row.Kind.{Kind}
@@ -37,7 +38,7 @@ pub data Answer (C : Type 0) : Type 0 where
 
 -- on which ground the adding of a row is refused
 abbrev pub add_refusal : {C : Type 0} → Account C → Row → Option Refusal
-add_refusal a r = or_else (row_refusal a.book.decisions r) (when (nat_le 256 (length (held a.book r.kind))) TableFull)
+add_refusal a r = option_or (row_refusal a.book.decisions r) (when (nat_le 256 (length (held a.book r.kind))) TableFull)
 
 -- on which ground a call is refused
 abbrev pub refusal : {C : Type 0} → Account C → Call → Option Refusal
@@ -47,7 +48,7 @@ refusal a (rank d n) = when (nat_le (length a.book.decisions) d) UnknownDecision
 refusal a (run budget) = when (nat_lt 1000000 budget) BudgetTooLarge
 refusal a (best buffer) = when (nat_lt (length buffer) (length a.book.decisions)) ShortPlan
 refusal a (exclusion d v) =
-    or_else (when (nat_le (length a.book.decisions) d) UnknownDecision) (when (not (is_value (size_at a.book.decisions d) v)) UnknownValue)
+    option_or (when (nat_le (length a.book.decisions) d) UnknownDecision) (when (not (is_value (size_at a.book.decisions d) v)) UnknownValue)
 refusal a (unexcluded d) = when (nat_le (length a.book.decisions) d) UnknownDecision
 
 -- how many steps a run of this budget makes

@@ -1,9 +1,10 @@
 -- One step of the search, and so many steps.
 use Rattle.std.specs.Prelude.{ℕ, zero, suc, Bool, true, false, cond, not, ◌&&◌, ◌||◌, List, [], ◌∷◌, length, Some, None, Option, ◌==◌, nat_le, nat_lt}
+use Rattle.std.specs.Option.{option_or}
 use Rattle.measure.specs.Meaning.{Meaning}
 use Rattle.rules.specs.Conditions.{Plan, met, names, condition}
 use Rattle.rules.specs.Plans.{Book, Set, size_at, on_at, enables, cost}
-use Rattle.rules.specs.Refusals.{when, or_else}
+use Rattle.rules.specs.Refusals.{when}
 use Rattle.rules.specs.declared.row.Row.{Row}
 use Rattle.account.specs.Accounts.{Account, Entry, Exclusion, Best, chosen, nobody, except, either, has_any}
 use Rattle.account.specs.declared.state.State.{State}
@@ -76,7 +77,7 @@ by_price m b d p (Some best) =
 
 -- the test of a value, by the plan with it in: first the forbid rules, then the cost
 unfoldable pub test : {C : Type 0} → Meaning C → Book → Option (Best C) → ℕ → Plan → Option Exclusion
-test m b best d p = or_else (by_forbid d (first_met b.forbids p)) (by_price m b d p best)
+test m b best d p = option_or (by_forbid d (first_met b.forbids p)) (by_price m b d p best)
 
 -- whether v is a value of a decision of this size
 abbrev pub is_value : ℕ → ℕ → Bool
@@ -100,7 +101,7 @@ is_free (Some e) = false
 -- the smallest of the values 1 to n that has no exclusion
 abbrev pub smallest_free : (ℕ → Option Exclusion) → ℕ → Option ℕ
 smallest_free ex zero = None
-smallest_free ex (suc n) = or_else (smallest_free ex n) (when (is_free (ex (suc n))) (suc n))
+smallest_free ex (suc n) = option_or (smallest_free ex n) (when (is_free (ex (suc n))) (suc n))
 
 abbrev pub reason_of : Option Exclusion → Set
 reason_of None = nobody

@@ -1,4 +1,4 @@
--- Worked cases: small books with the answers that a planner gives over them. All follow by computing from the definitions.
+-- Worked cases: small books with the answers that a planner gives over them, and judge of plans. All follow by computing from the definitions.
 use Rattle.std.specs.Prelude.{◌≡◌, ℕ, nat_le, Bool, true, false, ◌&&◌, List, [], ◌∷◌, ◌++◌, Some, None, Ok, Err, Option, Result, refl}
 use Rattle.std.specs.List.{flat_map}
 use Rattle.std.proofs.Common.{ap, lit≤}
@@ -108,19 +108,19 @@ pub record PlansShown : Type 0 where
   pub lawful : is_lawful book (plan_of 3 (2 ∷ 0 ∷ 3 ∷ [])) ≡ true
   pub priced : cost cents book.prices (plan_of 3 (2 ∷ 0 ∷ 3 ∷ [])) ≡ record { sum = 75 }
 
--- the rows of the rules that calls add
-abbrev pub rows_of : Call → List Row
-rows_of (add r) = r.row ∷ []
-rows_of (withdraw k place) = []
-rows_of (rank d n) = []
-rows_of (run budget) = []
-rows_of (best buffer) = []
-rows_of (exclusion d v) = []
-rows_of (unexcluded d) = []
+-- the row of the rule that a call adds, if it adds one
+abbrev pub row_added : Call → List Row
+row_added (add r) = r.row ∷ []
+row_added (withdraw k place) = []
+row_added (rank d n) = []
+row_added (run budget) = []
+row_added (best buffer) = []
+row_added (exclusion d v) = []
+row_added (unexcluded d) = []
 
--- what judge answers of a plan by the worked book's rules and some more
+-- what judge answers of a plan by the worked book's rules and some more: the one answer that can be worked out
 abbrev pub judges : List Call → List ℕ → Result (Result Cents Breach) Refusal
-judges more bytes = answer_of cents decisions (flat_map rows_of (rules ++ more)) bytes
+judges more bytes = answer_of cents decisions (flat_map row_added (rules ++ more)) bytes
 
 -- what judge tells first: the first decision at fault, then the first met forbid rule, then the cost
 pub record VerdictsShown : Type 0 where

@@ -17,7 +17,7 @@ pub fn planning_law<M: Measure>()
     ensures { Planning M.meaning }
 {}
 
-/// What follows from the planning law, told in other words.
+/// What follows from the planning law, without the definitions that it has of its own.
 pub fn planning_consequences<M: Measure>()
     ensures { Consequences M.meaning }
 {

@@ -1,12 +1,11 @@
 -- Load agrees with open and adds: what a text of decisions and rules is loaded as, or its fault.
 use Rattle.std.proofs.lemmas.Grind.{common_steps}
 use Rattle.std.proofs.Common.{◌≡◌, ℕ, suc, ◌+◌, Bool, true, false, ◌||◌, List, [], ◌∷◌, ◌++◌, map, length, Some, None, Option, Result, sym, refl, ap, ◌∙◌, append_assoc, append-nil, add-zero, arith}
-use Rattle.std.specs.Option.{option_map}
+use Rattle.std.specs.Option.{option_map, option_or}
 use Rattle.std.specs.List.{AllByRecursion}
 use Rattle.std.proofs.lemmas.Bool.{and_right, le-leb}
 use Rattle.measure.specs.Meaning.{Meaning}
 use Rattle.rules.specs.Judging.{open_refusal}
-use Rattle.rules.specs.Refusals.{or_else}
 use Rattle.rules.specs.declared.decision.Decision.{Decision}
 use Rattle.rules.specs.declared.refusal.Refusal.{Refusal}
 use Rattle.rules.specs.declared.row.Row.{Row}
@@ -42,7 +41,7 @@ pub lines_stated : (ds : List Decision) (rs : List Rule) → AllByRecursion Byte
 lines_stated ds rs sizes pairs = grind (arith, common_steps, lines_from, decisions_lack, rules_lack)
 
 -- one error before another
-unless_twice : {X E : Type 0} (o p : Option E) (r : Result X E) → unless o (unless p r) ≡ unless (or_else o p) r
+unless_twice : {X E : Type 0} (o p : Option E) (r : Result X E) → unless o (unless p r) ≡ unless (option_or o p) r
 unless_twice (Some e) p r = refl
 unless_twice None p r = refl
 

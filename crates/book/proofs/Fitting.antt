@@ -9,13 +9,13 @@ use Rattle.rules.specs.Plans.{size_at}
 use Rattle.rules.specs.declared.decision.Decision.{Decision}
 use Rattle.rules.specs.declared.literal.Literal.{Literal}
 use Rattle.rules.specs.declared.rule.Rule.{Rule}
-use Rattle.rules.proofs.Grounds.{when_none, or_else_none}
+use Rattle.rules.proofs.Grounds.{when_none, option_or_none}
 use Rattle.rules.proofs.Verdicts.{accepted_few}
 use Rattle.book.specs.Laws.{ByteSized, BytePaired}
 
 -- accepted decisions are sized
 pub accepted_sized : (ds : List Decision) → open_refusal ds ≡ None → sized ds ≡ true
-accepted_sized ds h = not-false (sized ds) (when_none _ _ (or_else_none _ _ h).1)
+accepted_sized ds h = not-false (sized ds) (when_none _ _ (option_or_none _ _ h).1)
 
 sizes_small : (ds : List Decision) → sized ds ≡ true → AllByRecursion (λ (d : Decision). d.size ≤ 16) ds
 sizes_small [] h = tt
@@ -42,4 +42,4 @@ sizes_fit ds opens = All-weaker (λ (d : Decision). d.size ≤ 16) ByteSized (λ
 
 -- so are the pairs of a rule that they allow
 pub rule_fits : (ds : List Decision) (r : Rule) → open_refusal ds ≡ None → row_refusal ds r.row ≡ None → BytePaired r
-rule_fits ds r opens h = grind (arith, common_steps, or_else_none, when_none, pairs_fit)
+rule_fits ds r opens h = grind (arith, common_steps, option_or_none, when_none, pairs_fit)

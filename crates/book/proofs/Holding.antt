@@ -15,7 +15,7 @@ use Rattle.rules.specs.declared.row.Kind.{Kind}
 use Rattle.rules.specs.declared.row.Kind.TheVariants.{Forbid, Activate, Price}
 use Rattle.rules.specs.declared.row.Row.{Row}
 use Rattle.rules.specs.declared.rule.Rule.{Rule}
-use Rattle.rules.proofs.Grounds.{when_none, or_else_none}
+use Rattle.rules.proofs.Grounds.{when_none, option_or_none}
 use Rattle.account.specs.Accounts.{Account, fresh}
 use Rattle.account.specs.Calls.{Call, add, withdraw, rank, run, best, exclusion, unexcluded, refusal, leaves, after, history}
 use Rattle.account.specs.Changes.{held, with_rules, added, withdrawn}
@@ -127,7 +127,7 @@ module _ {C : Type 0} (m : Meaning C) where
 
     leaves_holds : (a : Account C) (c : Call) → Holds ds a.book → refusal a c ≡ None → Holds ds (leaves m a c).book
     leaves_holds a (add r) h none =
-        let (known, room) = or_else_none _ _ none in
+        let (known, room) = option_or_none _ _ none in
         let k = r.row.kind in
         let one : Allowed ds k r = record { of_kind = refl; known = subst (λ (es : List Decision). row_refusal es r.row ≡ None) h.decisions_are known } in
         let new = held_push ds k (held a.book k) (h.by_kind k) r one (leb-false 256 (length (held a.book k)) (when_none _ _ room)) in

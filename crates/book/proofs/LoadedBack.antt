@@ -2,11 +2,10 @@
 use Rattle.std.proofs.lemmas.Grind.{common_steps}
 use Rattle.std.proofs.Common.{◌≡◌, ℕ, ◌+◌, List, [], ◌∷◌, ◌++◌, map, length, None, Ok, Option, sym, refl, ap, ◌∙◌, subst, ap₂, arith}
 use Rattle.std.proofs.lemmas.List.{append_assoc}
-use Rattle.std.specs.Option.{option_map}
+use Rattle.std.specs.Option.{option_map, option_or}
 use Rattle.measure.specs.Meaning.{Meaning}
 use Rattle.rules.specs.Judging.{open_refusal}
 use Rattle.rules.specs.Plans.{Book}
-use Rattle.rules.specs.Refusals.{or_else}
 use Rattle.rules.specs.declared.decision.Decision.{Decision}
 use Rattle.rules.specs.declared.refusal.Refusal.{Refusal}
 use Rattle.rules.specs.declared.rule.Rule.{Rule}
@@ -32,7 +31,7 @@ module _ {C : Type 0} (m : Meaning C) where
   opened_none n before [] h = refl
   opened_none n before (d ∷ ds) h =
       let all = subst (λ (es : List Decision). open_refusal es ≡ None) (sym (append_assoc before (d ∷ []) ds)) h in
-      ap (λ (o : Option Refusal). or_else (option_map (λ (r : Refusal). fault r n 1) o) (opened_from m (n + 1) (before ++ d ∷ []) ds)) (front_accepted (before ++ d ∷ []) ds all)
+      ap (λ (o : Option Refusal). option_or (option_map (λ (r : Refusal). fault r n 1) o) (opened_from m (n + 1) (before ++ d ∷ []) ds)) (front_accepted (before ++ d ∷ []) ds all)
       ∙ opened_none (n + 1) (before ++ d ∷ []) ds all
 
   -- accepted rules are added one by one

@@ -20,7 +20,7 @@ use Rattle.rendering.specs.Texts.{decision_line, ended, rule_line}
 use Rattle.statements.specs.Lines.{TextLine, lines_of}
 use Rattle.statements.specs.Statements.{Stated, decides, fault, rules}
 use Rattle.grammar.specs.Grammar.{all_ended}
-use Rattle.rules.proofs.Grounds.{or_else_none}
+use Rattle.rules.proofs.Grounds.{option_or_none}
 use Rattle.grammar.proofs.Forms.{err_ok}
 use Rattle.grammar.proofs.Texts.{text_of_lines}
 use Rattle.book.specs.Laws.{Accepted, ReadAsStated}
@@ -68,7 +68,7 @@ module _ {C : Type 0} (m : Meaning C) where
   module _ (began : Bool) (a : Account C) (l : TextLine) (ls : List TextLine) (b : Account C) (k : Kind) (ps : List Literal) (t : ℕ) (price : Price) (o : Obeyed m began a l ls b (rules k ps t price)) where
     rule_first : Adding ls (added m a k (composed k ps t price)) b → Adding (l ∷ ls) a b
     rule_first rest =
-        let grounds = or_else_none (compose_refusal k ps price) (add_refusal a (composed k ps t price)) o.accepted in
+        let grounds = option_or_none (compose_refusal k ps price) (add_refusal a (composed k ps t price)) o.accepted in
         let made = rule_of k ps t price o.fits grounds.0 in
         let r = made.0 in
         let is = made.1 in

@@ -1,12 +1,11 @@
 -- The laws of books as text: a book is read as the rules it states, load agrees with open and adds, and a written book loads as the same rules.
 use Rattle.std.specs.Prelude.{◌≡◌, ℕ, ◌+◌, ◌≤◌, List, [], ◌∷◌, ◌++◌, map, length, None, Ok, Option, Result}
-use Rattle.std.specs.Option.{option_map}
+use Rattle.std.specs.Option.{option_map, option_or}
 use Rattle.std.specs.List.{AllByRecursion}
 use Rattle.measure.specs.Meaning.{Meaning}
 use Rattle.rules.specs.Conditions.{condition}
 use Rattle.rules.specs.Judging.{open_refusal}
 use Rattle.rules.specs.Plans.{Book}
-use Rattle.rules.specs.Refusals.{or_else}
 use Rattle.rules.specs.declared.decision.Decision.{Decision}
 use Rattle.rules.specs.declared.literal.Literal.{Literal}
 use Rattle.rules.specs.declared.row.Row.{Row}
@@ -42,7 +41,7 @@ module _ {C : Type 0} (m : Meaning C) where
   -- decisions opened one by one, with one line each from line n: the fault of the first that open refuses after those before it
   abbrev pub opened_from : ℕ → List Decision → List Decision → Option Fault
   opened_from n before [] = None
-  opened_from n before (d ∷ ds) = or_else (option_map (λ r. fault r n 1) (open_refusal (before ++ d ∷ []))) (opened_from (n + 1) (before ++ d ∷ []) ds)
+  opened_from n before (d ∷ ds) = option_or (option_map (λ r. fault r n 1) (open_refusal (before ++ d ∷ []))) (opened_from (n + 1) (before ++ d ∷ []) ds)
 
   -- rules added one by one, with one line each from line n: the account after them, or the fault of the first that add refuses
   abbrev pub added_from : ℕ → Account C → List Rule → Result (Account C) Fault

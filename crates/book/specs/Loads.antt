@@ -1,10 +1,9 @@
 -- What loading a text does: its lines are read and carried out one by one.
 use Rattle.std.specs.Prelude.{ℕ, Bool, true, false, cond, ◌||◌, List, [], ◌∷◌, ◌++◌, length, Ok, Err, Option, Result, nat_lt}
-use Rattle.std.specs.Option.{option_map}
+use Rattle.std.specs.Option.{option_map, option_or}
 use Rattle.measure.specs.Meaning.{Meaning}
 use Rattle.rules.specs.Compose.{compose_refusal, composed}
 use Rattle.rules.specs.Judging.{open_refusal}
-use Rattle.rules.specs.Refusals.{or_else}
 use Rattle.rules.specs.declared.refusal.Refusal.{Refusal}
 use Rattle.rules.specs.declared.refusal.Refusal.TheVariants.{BookTooLarge}
 use Rattle.account.specs.Accounts.{Account, fresh}
@@ -22,7 +21,7 @@ is_rule (rules k ps target price) = true
 -- why a planner refuses what a line states: as open over the decisions so far, or as compose and then add
 abbrev pub statement_refusal : {C : Type 0} → Account C → Stated → Option Refusal
 statement_refusal a (decides d) = open_refusal (a.book.decisions ++ d ∷ [])
-statement_refusal a (rules k ps target price) = or_else (compose_refusal k ps price) (add_refusal a (composed k ps target price))
+statement_refusal a (rules k ps target price) = option_or (compose_refusal k ps price) (add_refusal a (composed k ps target price))
 
 -- what a planner is after what a line states: opened over one decision more, or with one rule more
 abbrev pub carried : {C : Type 0} → Meaning C → Account C → Stated → Account C

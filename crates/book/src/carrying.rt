@@ -1,12 +1,13 @@
 //! Carrying out what a line states.
 ghost use Rattle.std.specs.Prelude.{◌≡◌, ◌||◌, [], ◌∷◌, ◌++◌};
+ghost use Rattle.std.specs.Option.{option_or};
 ghost use Rattle.account.specs.Accounts.{fresh};
 ghost use Rattle.account.specs.Calls.{add_refusal};
 ghost use Rattle.account.specs.Changes.{added};
 ghost use Rattle.planner.specs.Planners.{account_of};
 ghost use Rattle.rules.specs.Compose.{compose_refusal, composed};
 ghost use Rattle.rules.specs.Judging.{open_refusal};
-ghost use Rattle.rules.specs.Refusals.{as_result, or_else, unless_refused};
+ghost use Rattle.rules.specs.Refusals.{as_result, unless_refused};
 ghost use Rattle.statements.specs.Views.{pairs_of, stated_of};
 ghost use Rattle.book.specs.Loads.{carried, is_rule, statement_refusal};
 
@@ -35,8 +36,8 @@ fn open_with<M: Measure>(planner: &mut Planner<M>, decision: Decision) -> Result
 
 /// Composes a rule of its parts, and adds it to a planner.
 fn add_rule<M: Measure>(planner: &mut Planner<M>, parts: &Parts) -> Result<(), Refusal>
-    ensures value { result ≡ as_result (or_else (compose_refusal parts.now.kind (pairs_of parts.now.pairs) parts.now.price) (add_refusal (account_of planner.old) (composed parts.now.kind (pairs_of parts.now.pairs) parts.now.target parts.now.price))) }
-    ensures after { account_of planner.new ≡ unless_refused (or_else (compose_refusal parts.now.kind (pairs_of parts.now.pairs) parts.now.price) (add_refusal (account_of planner.old) (composed parts.now.kind (pairs_of parts.now.pairs) parts.now.target parts.now.price))) (account_of planner.old) (added M.meaning (account_of planner.old) parts.now.kind (composed parts.now.kind (pairs_of parts.now.pairs) parts.now.target parts.now.price)) }
+    ensures value { result ≡ as_result (option_or (compose_refusal parts.now.kind (pairs_of parts.now.pairs) parts.now.price) (add_refusal (account_of planner.old) (composed parts.now.kind (pairs_of parts.now.pairs) parts.now.target parts.now.price))) }
+    ensures after { account_of planner.new ≡ unless_refused (option_or (compose_refusal parts.now.kind (pairs_of parts.now.pairs) parts.now.price) (add_refusal (account_of planner.old) (composed parts.now.kind (pairs_of parts.now.pairs) parts.now.target parts.now.price))) (account_of planner.old) (added M.meaning (account_of planner.old) parts.now.kind (composed parts.now.kind (pairs_of parts.now.pairs) parts.now.target parts.now.price)) }
 {
     let pairs = parts.pairs.as_slice();
     planner.add(&Rule::of(parts.kind, pairs, parts.target, parts.price)?)

@@ -1,7 +1,7 @@
 -- What a book of bytes comes to is what the calls answer over the decisions and rules that it states.
 use Rattle.std.proofs.Common.{◌≡◌, ℕ, zero, suc, ◌*◌, ◌/◌, ◌≤◌, Bool, true, false, List, [], ◌∷◌, ◌++◌, map, length, take, drop, is_some, Some, None, Ok, Err, Option, Result, sym, refl, ap, ◌∙◌, subst, arith}
 use Rattle.std.specs.List.{AllByRecursion, slice_index}
-use Rattle.std.specs.Option.{ok_or, option_and_then, option_map, option_map_or}
+use Rattle.std.specs.Option.{ok_or, option_and_then, option_map, option_map_or, option_or}
 use Rattle.std.specs.Simd.{first_chunks}
 use Rattle.measure.specs.Meaning.{Meaning}
 use Rattle.measure.specs.Supplied.{cents}
@@ -9,14 +9,14 @@ use Rattle.measure.specs.declared.cents.Cents.{Cents}
 use Rattle.rules.specs.Compose.{compose_refusal}
 use Rattle.rules.specs.Conditions.{condition}
 use Rattle.rules.specs.Judging.{open_refusal}
-use Rattle.rules.specs.Refusals.{or_else, when}
+use Rattle.rules.specs.Refusals.{when}
 use Rattle.rules.specs.declared.refusal.Refusal.{Refusal}
 use Rattle.rules.specs.declared.decision.Decision.{Decision}
 use Rattle.rules.specs.declared.row.Kind.{Kind}
 use Rattle.rules.specs.declared.row.Row.{Row}
 use Rattle.rules.specs.declared.rule.Rule.{Rule}
 use Rattle.rules.proofs.Composing.{accepted_shape}
-use Rattle.rules.proofs.Grounds.{or_else_none}
+use Rattle.rules.proofs.Grounds.{option_or_none}
 use Rattle.account.specs.Accounts.{Account, Best, fresh}
 use Rattle.account.specs.Calls.{Answer, Call, add, add_refusal, after, after_if, answer, answer_if, best, done, made, ran, refusal, report, reported, run, written}
 use Rattle.account.specs.Changes.{added}
@@ -134,8 +134,8 @@ module _ {C : Type 0} (m : Meaning C) where
       let (c, one, more) = then_ok (read_record m a bytes) (λ (x : Account C). read_records m x records) b h in
       let (row, there, made) = then_ok (ok_or (row_in bytes) Malformed) (ruled m a) c one in
       let row_is = some_ok (row_in bytes) Malformed row there in
-      let (free, left) = unless_ok (or_else (compose_refusal row.kind (condition row) row.price) (add_refusal a (composing row))) (Ok (added m a row.kind (composing row))) c made in
-      let (shaped, none) = or_else_none (compose_refusal row.kind (condition row) row.price) (add_refusal a (composing row)) free in
+      let (free, left) = unless_ok (option_or (compose_refusal row.kind (condition row) row.price) (add_refusal a (composing row))) (Ok (added m a row.kind (composing row))) c made in
+      let (shaped, none) = option_or_none (compose_refusal row.kind (condition row) row.price) (add_refusal a (composing row)) free in
       let (low, tier) = row_small bytes row all.0 row_is in
       let (r, is) = rule_of row low tier shaped in
       let next = added m a row.kind (composing row) in
@@ -185,8 +185,8 @@ answers_as_calls book budget buffer bytes p h =
     let rest = adding cents pieces.records (records_bytes book pieces bytes pieces_are) (fresh ds) a (ap (λ (x : Account Cents). read_records cents x pieces.records) (ok_same (fresh ds) start is) ∙ reads) in
     let b = after cents a (run budget) in
     let found : Planned = record { outcome = outcome_of (made cents budget a) b; plan = told b buffer } in
-    let (none, same) = unless_ok (or_else (refusal a (run budget)) (refusal b (best buffer))) (Ok found) p ending in
-    let (fine, long) = or_else_none (refusal a (run budget)) (refusal b (best buffer)) none in
+    let (none, same) = unless_ok (option_or (refusal a (run budget)) (refusal b (best buffer))) (Ok found) p ending in
+    let (fine, long) = option_or_none (refusal a (run budget)) (refusal b (best buffer)) none in
     subst (Called book budget buffer) (ok_same found p same)
     (record {
       pieces = pieces;

@@ -1,11 +1,10 @@
 -- Reading the rules of a book.
 use Rattle.std.proofs.Common.{◌≡◌, ℕ, ◌+◌, ◌<◌, ◌≤◌, List, length, get_or, drop, Some, None, Ok, Err, Option, Result, sym, ap, ◌∙◌}
 use Rattle.std.proofs.lemmas.List.{at_drop_all, at_drop_more}
-use Rattle.std.specs.Option.{ok_or}
+use Rattle.std.specs.Option.{ok_or, option_or}
 use Rattle.measure.specs.Meaning.{Meaning}
 use Rattle.rules.specs.Compose.{compose_refusal, composed}
 use Rattle.rules.specs.Conditions.{condition}
-use Rattle.rules.specs.Refusals.{or_else}
 use Rattle.rules.specs.declared.refusal.Refusal.{Refusal}
 use Rattle.rules.specs.declared.row.Row.{Row}
 use Rattle.rules.specs.declared.rule.Rule.{Rule}
@@ -32,7 +31,7 @@ module _ {C : Type 0} (m : Meaning C) (a : Account C) where
       let left : Account C = added m a row.kind made in
       sym
       (ap (λ (o : Option Row). then (ok_or o Malformed) (ruled m a)) (sym stated)
-      ∙ ap (λ (o : Option Refusal). unless (or_else o (add_refusal a made)) (Ok left)) accepted
+      ∙ ap (λ (o : Option Refusal). unless (option_or o (add_refusal a made)) (Ok left)) accepted
       ∙ ap (λ (o : Option Refusal). unless o (Ok left)) ground)
 
   module _ (rs : List (List ℕ)) (i : ℕ) (r : List ℕ) (l : i < length rs) where

@@ -1,13 +1,13 @@
 -- What a book of bytes comes to: a planner loaded, run and asked for its best, or the first fault.
 use Rattle.std.specs.Prelude.{ℕ, Bool, true, false, List, [], ◌∷◌, length, is_some, Some, None, Ok, Err, Option, Result}
-use Rattle.std.specs.Option.{ok_or, option_map_or}
+use Rattle.std.specs.Option.{ok_or, option_map_or, option_or}
 use Rattle.measure.specs.Meaning.{Meaning}
 use Rattle.measure.specs.Supplied.{cents}
 use Rattle.measure.specs.declared.cents.Cents.{Cents}
 use Rattle.rules.specs.Compose.{compose_refusal, composed}
 use Rattle.rules.specs.Conditions.{condition}
 use Rattle.rules.specs.Judging.{open_refusal}
-use Rattle.rules.specs.Refusals.{number_of, or_else}
+use Rattle.rules.specs.Refusals.{number_of}
 use Rattle.rules.specs.declared.refusal.Refusal.{Refusal}
 use Rattle.rules.specs.declared.row.Row.{Row}
 use Rattle.account.specs.Accounts.{Account, fresh}
@@ -54,7 +54,7 @@ module _ {C : Type 0} (m : Meaning C) where
   abbrev pub ruled : Account C → Row → Result (Account C) Fault
   ruled a r =
       let row = composed r.kind (condition r) r.target r.price in
-      unless (or_else (compose_refusal r.kind (condition r) r.price) (add_refusal a row)) (Ok (added m a r.kind row))
+      unless (option_or (compose_refusal r.kind (condition r) r.price) (add_refusal a row)) (Ok (added m a r.kind row))
 
   -- an account after the rule that a record states
   abbrev pub read_record : Account C → List ℕ → Result (Account C) Fault
@@ -86,7 +86,7 @@ told a buffer = option_map_or (λ b. written (length a.book.decisions) b.plan bu
 abbrev pub planned : Account Cents → ℕ → List ℕ → Result Planned Fault
 planned a budget buffer =
     let b = after cents a (run budget) in
-    unless (or_else (refusal a (run budget)) (refusal b (best buffer))) (Ok (record { outcome = outcome_of (made cents budget a) b; plan = told b buffer }))
+    unless (option_or (refusal a (run budget)) (refusal b (best buffer))) (Ok (record { outcome = outcome_of (made cents budget a) b; plan = told b buffer }))
 
 -- what a book of bytes comes to, or its first fault
 abbrev pub answered : List ℕ → ℕ → List ℕ → Result Planned Fault

@@ -1,7 +1,7 @@
 -- Lines: the text of a statement is read as it, and only that is.
 use Rattle.std.proofs.lemmas.Grind.{common_steps}
 use Rattle.std.proofs.Common.{◌≡◌, ℕ, ◌+◌, ◌<◌, ◌≤◌, Bool, true, false, not, ◌&&◌, ◌||◌, eqb, ltb, leb, List, [], ◌∷◌, ◌++◌, map, length, drop, Some, None, Ok, decimal, Option, sym, refl, ap, ◌∙◌, subst, arith}
-use Rattle.std.specs.Option.{option_map}
+use Rattle.std.specs.Option.{option_map, option_or}
 use Rattle.std.specs.List.{AllByRecursion}
 use Rattle.std.proofs.ByRecursion.{All-append, All-weaker}
 use Rattle.std.proofs.lemmas.Bool.{and_from, and_parts, ltb-false, le-ltb, not-false, or_from, or_parts}
@@ -10,7 +10,7 @@ use Rattle.reading.specs.Numbers.{number_up_to}
 use Rattle.reading.specs.Pieces.{is_nil}
 use Rattle.reading.proofs.Cuts.{left_within}
 use Rattle.rules.specs.Compose.{free}
-use Rattle.rules.specs.Refusals.{or_else, when}
+use Rattle.rules.specs.Refusals.{when}
 use Rattle.rules.specs.declared.literal.Literal.{Literal}
 use Rattle.rules.specs.declared.refusal.Refusal.TheVariants.{PairCount, FieldCount, DecisionAfterRule}
 use Rattle.rules.specs.declared.row.Kind.{Kind}
@@ -25,7 +25,7 @@ use Rattle.statements.specs.declared.line.LineKind.TheVariants.{Decision as D, F
 use Rattle.rules.proofs.Recomposing.{free_price}
 use Rattle.grammar.specs.Grammar.{fitting, fitting_head, fitting_pairs, is_decided, line_text}
 use Rattle.grammar.specs.Laws.{ReadsOnlyText, TextIsRead}
-use Rattle.rules.proofs.Grounds.{when_none, or_else_none}
+use Rattle.rules.proofs.Grounds.{when_none, option_or_none}
 use Rattle.grammar.proofs.Forms.{decimal_only, decimal_read, mapped_none, mark_only, mark_read, Solid, solid_decimal, solid_mark, solid_pairs, pairs_only, pairs_read, then_formed, then_ok, unless_ok}
 use Rattle.grammar.proofs.Joins.{Lacks, cut_spaced, spaced_pieces}
 
@@ -183,7 +183,7 @@ kind_only began l s None k e = cc
 kind_only began l s (Some kind) k e =
     let early = unless_ok (when (began && is_decision kind) (fault DecisionAfterRule l.number 1)) _ s e in
     let whole = unless_ok (option_map (fault FieldCount l.number) (field_fault kind l.ended l.bytes)) _ s early.1 in
-    let faultless = or_else_none (first_bad kind 0 3 (fields_of l.bytes)) _ (mapped_none (fault FieldCount l.number) (field_fault kind l.ended l.bytes) whole.0) in
+    let faultless = option_or_none (first_bad kind 0 3 (fields_of l.bytes)) _ (mapped_none (fault FieldCount l.number) (field_fault kind l.ended l.bytes) whole.0) in
     let enough = or_parts (ltb (length (fields_of l.bytes)) (heads kind)) (not l.ended) (when_none _ _ faultless.1) in
     let stated = fields_only kind l.number (fields_of l.bytes) s faultless.0 (ltb-false _ (heads kind) enough.0) whole.1 in (
       line_only l.bytes kind k
@@ -259,8 +259,8 @@ module _ (s : Stated) (h : fitting s ≡ true) where
 
   text_faultless : field_fault (stated_kind s) true (line_text s) ≡ None
   text_faultless =
-      ap (λ (fs : List (List ℕ)). or_else (first_bad (stated_kind s) 0 3 fs) (when (ltb (length fs) (heads (stated_kind s)) || false) (length (line_text s) + 1))) fields_of_text
-      ∙ ap (λ (o : Option ℕ). or_else o (when (ltb (length (stated_fields s)) (heads (stated_kind s)) || false) (length (line_text s) + 1)))
+      ap (λ (fs : List (List ℕ)). option_or (first_bad (stated_kind s) 0 3 fs) (when (ltb (length fs) (heads (stated_kind s)) || false) (length (line_text s) + 1))) fields_of_text
+      ∙ ap (λ (o : Option ℕ). option_or o (when (ltb (length (stated_fields s)) (heads (stated_kind s)) || false) (length (line_text s) + 1)))
       (faultless s (All-weaker (Solid 32) (λ f. is_nil f ≡ false) (λ f solid. solid.1) (stated_fields s) solid_line))
       ∙ ap (λ (t : Bool). when t (length (line_text s) + 1)) (or_from _ _ (le-ltb (length (stated_fields s)) (heads (stated_kind s)) (enough_fields s)) refl)
 

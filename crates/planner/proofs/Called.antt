@@ -1,6 +1,7 @@
 -- The account after a call that leaves the rules alone.
 use Rattle.std.proofs.lemmas.Grind.{common_steps}
 use Rattle.std.proofs.Common.{◌≡◌, ℕ, zero, suc, ◌+◌, ◌-◌, ◌<◌, ◌≤◌, Bool, true, false, cond, eqb, ltb, leb, List, ◌++◌, map, length, take, drop, set, Some, None, Option, sym, refl, ap, ◌∙◌, ap₂, add-zero, add-suc, arith, length-take, get_or-take}
+use Rattle.std.specs.Option.{option_or}
 use Rattle.std.proofs.lemmas.List.FromFn.{fill_by_all}
 use Rattle.std.proofs.lemmas.Bool.{lt-leb, le-ltb}
 use Rattle.std.specs.List.{range_with_len}
@@ -12,7 +13,7 @@ use Rattle.account.specs.declared.state.State.TheVariants.{Open, Settled}
 use Rattle.measure.specs.Meaning.{Meaning}
 use Rattle.rules.specs.Conditions.{from_bytes}
 use Rattle.rules.specs.Judging.{row_refusal}
-use Rattle.rules.specs.Refusals.{or_else, when}
+use Rattle.rules.specs.Refusals.{when}
 use Rattle.rules.specs.declared.decision.Decision.{Decision}
 use Rattle.rules.specs.declared.refusal.Refusal.{Refusal}
 use Rattle.rules.specs.declared.refusal.Refusal.TheVariants.{ShortPlan, TableFull}
@@ -93,16 +94,16 @@ module _ {C : Type 0} (m : Meaning C) (a : Account C) where
   refuses c e h = (ap (answer_if m a c) (sym h), ap (after_if m a c) (sym h))
 
   module _ (rule : Rule) (row : Row) (ds : List Decision) (rows : List Row) (same : row ≡ rule.row) (book : ds ≡ a.book.decisions) (table : rows ≡ held a.book row.kind) where
-    grounds : refusal a (add rule) ≡ or_else (row_refusal ds row) (when (leb 256 (length rows)) TableFull)
+    grounds : refusal a (add rule) ≡ option_or (row_refusal ds row) (when (leb 256 (length rows)) TableFull)
     grounds = grind (arith, common_steps)
 
     -- no ground holds against a rule
     pub rule_accepted : row_refusal ds row ≡ None → length rows < 256 → refusal a (add rule) ≡ None
-    rule_accepted h l = grounds ∙ ap₂ (λ (o : Option Refusal) (b : Bool). or_else o (when b TableFull)) h (lt-leb 256 (length rows) l)
+    rule_accepted h l = grounds ∙ ap₂ (λ (o : Option Refusal) (b : Bool). option_or o (when b TableFull)) h (lt-leb 256 (length rows) l)
 
     -- a rule that does not fit the decisions
     pub rule_refused : (e : Refusal) → row_refusal ds row ≡ Some e → refusal a (add rule) ≡ Some e
-    rule_refused e h = grounds ∙ ap (λ (o : Option Refusal). or_else o (when (leb 256 (length rows)) TableFull)) h
+    rule_refused e h = grounds ∙ ap (λ (o : Option Refusal). option_or o (when (leb 256 (length rows)) TableFull)) h
 
     -- what an accepted rule leaves
     pub rule_left : (x : Account C) → row_refusal ds row ≡ None → length rows < 256 → x ≡ added m a row.kind row → (done ≡ answer m a (add rule)) × (x ≡ after m a (add rule))

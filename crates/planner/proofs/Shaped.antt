@@ -2,7 +2,7 @@
 use Rattle.std.proofs.lemmas.Grind.{common_steps}
 use Rattle.std.proofs.Common.{◌≡◌, ℕ, ◌≤◌, true, ◌&&◌, ltb, leb, List, [], ◌∷◌, length, None, refl, arith}
 use Rattle.std.proofs.lemmas.Bool.{and_from, and_parts, lt-ltb, ltb-true}
-use Rattle.rules.proofs.Grounds.{when_none, or_else_none}
+use Rattle.rules.proofs.Grounds.{when_none, option_or_none}
 use Rattle.rules.specs.Compose.{ascends}
 use Rattle.rules.specs.Conditions.{condition}
 use Rattle.rules.specs.Judging.{known_decisions, row_refusal}
@@ -31,4 +31,4 @@ known_more n (k ∷ ls) l h =
 -- an accepted rule has the shape of a table's rows
 pub rule_shaped : (rule : Rule) (row : Row) (ds : List Decision) → row ≡ rule.row → length ds ≤ 64 → row_refusal ds row ≡ None → shaped row ≡ true
 unfolding shaped
-rule_shaped rule row ds e few h = grind (arith, common_steps, or_else_none, when_none, known_more)
+rule_shaped rule row ds e few h = grind (arith, common_steps, option_or_none, when_none, known_more)

@@ -1,6 +1,7 @@
 -- The account after the parts of a step.
 use Rattle.std.proofs.lemmas.Grind.{common_steps}
 use Rattle.std.proofs.Common.{◌≡◌, ℕ, zero, suc, ◌<◌, ◌≤◌, Bool, true, false, cond, not, ◌&&◌, ◌||◌, eqb, List, [], ◌∷◌, length, Some, None, Option, refl, ap, ◌∙◌, arith}
+use Rattle.std.specs.Option.{option_or}
 use mathlib.Core.Path.{fun_ext}
 use Rattle.std.specs.List.{AllByRecursion}
 use Rattle.account.proofs.Finds.{Picked, picked}
@@ -9,7 +10,7 @@ use Rattle.account.specs.Steps.{Retreat, any_rests, blame, blamed, champion, cho
 use Rattle.measure.specs.Meaning.{Meaning}
 use Rattle.rules.specs.Conditions.{Plan}
 use Rattle.rules.specs.Plans.{Book, Set, cost, size_at}
-use Rattle.rules.specs.Refusals.{or_else, when}
+use Rattle.rules.specs.Refusals.{when}
 use Rattle.tables.proofs.Entering.{Enters, proper_parts}
 use Rattle.tables.proofs.Listed.{meets_any}
 use Rattle.tables.specs.Entries.{in_list, proper}
@@ -59,7 +60,7 @@ pub free_value : (ex : ℕ → Option Exclusion) (n v : ℕ) → smallest_free e
 free_value ex zero v h = absurd (let z : ◌≡◌ {A = ℕ} 0 1 = cc in omega arith)
 free_value ex (suc n) v h = go (smallest_free ex n) (is_free (ex (suc n))) h (free_value ex n)
   where
-    go : (o : Option ℕ) (b : Bool) → or_else o (when b (suc n)) ≡ Some v → ((w : ℕ) → o ≡ Some w → (1 ≤ w) × (w ≤ n)) → (1 ≤ v) × (v ≤ suc n)
+    go : (o : Option ℕ) (b : Bool) → option_or o (when b (suc n)) ≡ Some v → ((w : ℕ) → o ≡ Some w → (1 ≤ w) × (w ≤ n)) → (1 ≤ v) × (v ≤ suc n)
     go (Some w) b k later = let e : w ≡ v = cc in let q = later w refl in (omega arith, omega arith)
     go None true k later = let e : suc n ≡ v = cc in (omega arith, omega arith)
     go None false k later = absurd (let z : ◌≡◌ {A = ℕ} 0 1 = cc in omega arith)

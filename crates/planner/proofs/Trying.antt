@@ -1,13 +1,13 @@
 -- The tests of a decision's values, as code makes them.
 use Rattle.std.proofs.lemmas.Grind.{common_steps}
 use Rattle.std.proofs.Common.{◌≡◌, ℕ, ◌+◌, ◌-◌, ◌<◌, ◌≤◌, Bool, true, false, cond, not, ◌&&◌, eqb, List, [], ◌∷◌, length, get_or, set, Some, None, Option, ap, ◌∙◌, ap₂, arith, get_or-set_other}
+use Rattle.std.specs.Option.{option_or}
 use Rattle.account.specs.Accounts.{Exclusion}
 use Rattle.account.specs.Steps.{by_forbid, choose, first_met, kept, named_in, reaches}
 use Rattle.measure.specs.Meaning.{Meaning}
 use Rattle.rules.specs.Conditions.{Plan, condition, from_bytes, met, names}
 use Rattle.rules.specs.Judging.{known_decisions}
 use Rattle.rules.specs.Plans.{Book, Set, cost}
-use Rattle.rules.specs.Refusals.{or_else}
 use Rattle.rules.specs.declared.row.Row.{Row}
 use Rattle.scans.specs.Known.{Known}
 use Rattle.planner.specs.Trials.{by_cost, or_tried, tried_to, try_plan}
@@ -36,7 +36,7 @@ module _ {C : Type 0} (m : Meaning C) (b : Book) (d : ℕ) (p : Plan) where
   -- none is met, so the cost decides
   pub forbid_miss : (best : Option C) (rs : List Row) → rs ≡ b.forbids → None ≡ first_met rs p → by_cost m b d p best ≡ try_plan m b best d p
   unfolding try_plan
-  forbid_miss best rs same h = ap (λ (o : Option Row). or_else (by_forbid d o) (by_cost m b d p best)) (h ∙ ap (λ (xs : List Row). first_met xs p) same)
+  forbid_miss best rs same h = ap (λ (o : Option Row). option_or (by_forbid d o) (by_cost m b d p best)) (h ∙ ap (λ (xs : List Row). first_met xs p) same)
 
 -- values up to n, and one more
 module _ {C : Type 0} (m : Meaning C) (b : Book) (best : Option C) (p : Plan) (ex : ℕ → ℕ → Option Exclusion) (d : ℕ) where

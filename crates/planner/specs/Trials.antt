@@ -1,11 +1,12 @@
 -- The tests of a decision's values, one after the other.
 use Rattle.std.specs.Prelude.{ℕ, Bool, true, false, ◌&&◌, Some, None, Option, ◌==◌}
+use Rattle.std.specs.Option.{option_or}
 use Rattle.account.specs.Accounts.{Exclusion, except}
 use Rattle.account.specs.Steps.{by_forbid, choose, first_met, is_value, price_reason, reaches}
 use Rattle.measure.specs.Meaning.{Meaning}
 use Rattle.rules.specs.Conditions.{Plan}
 use Rattle.rules.specs.Plans.{Book, cost}
-use Rattle.rules.specs.Refusals.{or_else, when}
+use Rattle.rules.specs.Refusals.{when}
 
 -- the exclusion that a best's cost gives a plan, if one is held
 abbrev pub by_cost : {C : Type 0} → Meaning C → Book → ℕ → Plan → Option C → Option Exclusion
@@ -14,7 +15,7 @@ by_cost m b d p (Some best) = when (reaches m best (cost m b.prices p)) (record 
 
 -- the test of a plan: first the forbid rules, then the cost
 unfoldable pub try_plan : {C : Type 0} → Meaning C → Book → Option C → ℕ → Plan → Option Exclusion
-try_plan m b best d p = or_else (by_forbid d (first_met b.forbids p)) (by_cost m b d p best)
+try_plan m b best d p = option_or (by_forbid d (first_met b.forbids p)) (by_cost m b d p best)
 
 -- an exclusion that there is, or else what a test gives, if it is asked
 abbrev pub or_tried : Option Exclusion → Bool → Option Exclusion → Option Exclusion

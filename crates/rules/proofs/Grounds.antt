@@ -1,6 +1,7 @@
 -- What an answer tells of the grounds of refusal behind it.
 use Rattle.std.proofs.Common.{◌≡◌, Bool, true, false, Some, None, Ok, Err, Option, refl}
-use Rattle.rules.specs.Refusals.{when, or_else, as_result}
+use Rattle.std.specs.Option.{option_or}
+use Rattle.rules.specs.Refusals.{when, as_result}
 
 pub refused_some : {E : Type 0} (o : Option E) (e : E) → as_result o ≡ Err e → o ≡ Some e
 refused_some (Some f) e h = cc
@@ -14,6 +15,6 @@ pub when_none : {X : Type 0} (b : Bool) (x : X) → when b x ≡ None → b ≡ 
 when_none true x h = cc
 when_none false x h = refl
 
-pub or_else_none : {X : Type 0} (o p : Option X) → or_else o p ≡ None → (o ≡ None) × (p ≡ None)
-or_else_none (Some x) p h = (cc, cc)
-or_else_none None p h = (refl, h)
+pub option_or_none : {X : Type 0} (o p : Option X) → option_or o p ≡ None → (o ≡ None) × (p ≡ None)
+option_or_none (Some x) p h = (cc, cc)
+option_or_none None p h = (refl, h)

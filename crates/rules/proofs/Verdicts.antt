@@ -17,12 +17,12 @@ use Rattle.rules.specs.declared.verdict.Breach.{Breach}
 use Rattle.rules.specs.declared.verdict.Breach.TheVariants.{NotActive, NotChosen, OutOfRange, Forbidden}
 use Rattle.rules.proofs.Activity.{Targets, active_sound, active_complete}
 use Rattle.rules.proofs.ByKind.{activates, forbids}
-use Rattle.rules.proofs.Grounds.{when_none, or_else_none, accepted_none}
+use Rattle.rules.proofs.Grounds.{when_none, option_or_none, accepted_none}
 use Rattle.rules.proofs.Lawfulness.{lawful_from_fits}
 
 -- accepted decisions are at most 64
 pub accepted_few : (ds : List Decision) → open_refusal ds ≡ None → length ds ≤ 64
-accepted_few ds h = ltb-false 64 (length ds) (when_none (ltb 64 (length ds)) TooManyDecisions (or_else_none (when (ltb 64 (length ds)) TooManyDecisions) (when (not (sized ds)) SizeOutOfRange) h).0)
+accepted_few ds h = ltb-false 64 (length ds) (when_none (ltb 64 (length ds)) TooManyDecisions (option_or_none (when (ltb 64 (length ds)) TooManyDecisions) (when (not (sized ds)) SizeOutOfRange) h).0)
 
 -- an accepted activate row has a known target
 row_target : (ds : List Decision) (r : Row) → row_refusal ds r ≡ None → is_activate r.kind ≡ true → r.target < length ds
@@ -32,7 +32,7 @@ row_target ds r h a = grind (arith, common_steps)
 pub targets_known : (ds : List Decision) (rs : List Row) → rows_refusal ds rs ≡ None → Targets (length ds) (activates rs)
 targets_known ds [] h = tt
 targets_known ds (r ∷ rs) h =
-    let (here, later) = or_else_none (row_refusal ds r) (rows_refusal ds rs) h in
+    let (here, later) = option_or_none (row_refusal ds r) (rows_refusal ds rs) h in
     go (is_activate r.kind) refl here (targets_known ds rs later)
   where
     go : (b : Bool) → is_activate r.kind ≡ b → row_refusal ds r ≡ None → Targets (length ds) (activates rs) → Targets (length ds) (cond b (r ∷ activates rs) (activates rs))

@@ -3,7 +3,7 @@ use Rattle.std.proofs.Common.{◌≡◌, ℕ, zero, suc, ◌<◌, ◌≤◌, fal
 use Rattle.std.proofs.lemmas.Grind.{common_steps}
 use Rattle.std.proofs.lemmas.Bool.{both_ways, cases_eq, cases_lt}
 use Rattle.std.proofs.lemmas.Iterator.Adapters.{position_from-zero}
-use Rattle.std.specs.Option.{option_map}
+use Rattle.std.specs.Option.{option_map, option_or}
 use Rattle.std.proofs.lemmas.Option.{none-some}
 use Rattle.std.specs.List.{AllByRecursion, position_from}
 use Rattle.measure.specs.Meaning.{Meaning}
@@ -11,16 +11,16 @@ use Rattle.rules.specs.Conditions.{Plan, plan_of, met}
 use Rattle.rules.specs.Judging.{Answered, Breaks, Fits, FitsBelow, FirstMet, Judged, book_of, judge_refusal, open_refusal, rows_refusal}
 use Rattle.rules.specs.Plans.{Active, Book, Lawful, active, cost, size_at}
 use Rattle.rules.specs.declared.decision.Decision.{Decision}
-use Rattle.rules.specs.Refusals.{when, or_else}
+use Rattle.rules.specs.Refusals.{when}
 use Rattle.rules.specs.Searches.{misfit_at}
-use Rattle.rules.specs.Verdicts.{answer_of, breach_of, first_below, unless}
+use Rattle.rules.specs.Verdicts.{answer_of, breach_of, first_below, error_or}
 use Rattle.rules.specs.declared.refusal.Refusal.{Refusal}
 use Rattle.rules.specs.declared.refusal.Refusal.TheVariants.{ShortPlan}
 use Rattle.rules.specs.declared.row.Row.{Row}
 use Rattle.rules.specs.declared.verdict.Breach.{Breach}
 use Rattle.rules.specs.declared.verdict.Breach.TheVariants.{NotActive, NotChosen, OutOfRange, Forbidden}
 use Rattle.rules.proofs.Activity.{Targets, active_complete, active_known}
-use Rattle.rules.proofs.Grounds.{or_else_none}
+use Rattle.rules.proofs.Grounds.{option_or_none}
 use Rattle.rules.proofs.ByKind.{forbids}
 use Rattle.rules.proofs.Verdicts.{found_forbidden, found_misfit, found_nothing, targets_known}
 
@@ -120,8 +120,8 @@ module _ {C : Type 0} (m : Meaning C) (ds : List Decision) (rs : List Row) (byte
   one_verdict ok (Ok c) (Err y) h g = absurd (lawful_unbroken (book_of ds rs) (plan_of (length ds) bytes) y h.0 g)
   one_verdict ok (Err x) (Ok d) h g = absurd (lawful_unbroken (book_of ds rs) (plan_of (length ds) bytes) x g.0 h)
   one_verdict ok (Err x) (Err y) h g =
-      let parts = or_else_none (open_refusal ds) (or_else (rows_refusal ds rs) (when (ltb (length bytes) (length ds)) ShortPlan)) ok in
-      let known = (or_else_none (rows_refusal ds rs) (when (ltb (length bytes) (length ds)) ShortPlan) parts.1).0 in
+      let parts = option_or_none (open_refusal ds) (option_or (rows_refusal ds rs) (when (ltb (length bytes) (length ds)) ShortPlan)) ok in
+      let known = (option_or_none (rows_refusal ds rs) (when (ltb (length bytes) (length ds)) ShortPlan) parts.1).0 in
       ap Err (one_breach (book_of ds rs) (plan_of (length ds) bytes) (targets_known ds rs known) (plan_idle (length ds) bytes) x y h g)
 
   one_answer : (v w : Result (Result C Breach) Refusal) → Answered m ds rs bytes v → Answered m ds rs bytes w → v ≡ w
@@ -134,7 +134,7 @@ module _ {C : Type 0} (m : Meaning C) (ds : List Decision) (rs : List Row) (byte
 none_below : {X : Type 0} (f : ℕ → Option X) (n : ℕ) → first_below f n ≡ None → (d : ℕ) → d < n → f d ≡ None
 none_below f zero h d l = absurd (omega arith)
 none_below f (suc n) h d l =
-    let parts = or_else_none (first_below f n) (f n) h in
+    let parts = option_or_none (first_below f n) (f n) h in
     ⊎_elim (λ (e : d ≡ n). rw e parts.1) (λ (ne : d ≡ n → ⊥). none_below f n parts.0 d (omega arith)) (cases_eq d n)
 
 -- what is found is the first
@@ -143,7 +143,7 @@ first_found f zero x h = absurd (none-some x h)
 first_found f (suc n) x h = go (first_below f n) refl (first_found f n x) (none_below f n) h
   where
     go : (o : Option _) → first_below f n ≡ o → (first_below f n ≡ Some x → (d : ℕ) × (d < n) × ((e : ℕ) → e < d → f e ≡ None) × (f d ≡ Some x))
-        → (first_below f n ≡ None → (d : ℕ) → d < n → f d ≡ None) → or_else o (f n) ≡ Some x → (d : ℕ) × (d < suc n) × ((e : ℕ) → e < d → f e ≡ None) × (f d ≡ Some x)
+        → (first_below f n ≡ None → (d : ℕ) → d < n → f d ≡ None) → option_or o (f n) ≡ Some x → (d : ℕ) × (d < suc n) × ((e : ℕ) → e < d → f e ≡ None) × (f d ≡ Some x)
     go (Some y) e found none k = let (d, l, before, here) = found (e ∙ k) in (d, omega arith, before, here)
     go None e found none k = (n, omega arith, none e, k)
 
@@ -157,14 +157,14 @@ module _ {C : Type 0} (m : Meaning C) (ds : List Decision) (rs : List Row) (byte
   abbrev misfits : ℕ → Option Breach
   misfits = misfit_at ds (active the_book the_plan) the_plan
 
-  judged_out : open_refusal ds ≡ None → rows_refusal ds rs ≡ None → Judged m the_book the_plan (unless (breach_of the_book the_plan) (cost m the_book.prices the_plan))
+  judged_out : open_refusal ds ≡ None → rows_refusal ds rs ≡ None → Judged m the_book the_plan (error_or (breach_of the_book the_plan) (cost m the_book.prices the_plan))
   judged_out accepted known = go (first_below misfits (length ds)) refl (position (met the_plan) (forbids rs)) refl
     where
       found : {o : Option ℕ} → position (met the_plan) (forbids rs) ≡ o → position_from (met the_plan) 0 (forbids rs) ≡ o
       found e = sym (position_from-zero (met the_plan) (forbids rs)) ∙ e
 
       go : (o : Option Breach) → first_below misfits (length ds) ≡ o → (q : Option ℕ) → position (met the_plan) (forbids rs) ≡ q
-          → Judged m the_book the_plan (unless (or_else o (option_map Forbidden q)) (cost m the_book.prices the_plan))
+          → Judged m the_book the_plan (error_or (option_or o (option_map Forbidden q)) (cost m the_book.prices the_plan))
       go (Some x) e q f = found_misfit ds rs the_plan accepted known x (first_found misfits (length ds) x e)
       go None e (Some k) f = found_forbidden ds rs the_plan accepted known k (none_below misfits (length ds) e) (found f)
       go None e None f = (found_nothing ds rs the_plan accepted known (plan_idle (length ds) bytes) (none_below misfits (length ds) e) (found f), refl)
@@ -173,13 +173,13 @@ module _ {C : Type 0} (m : Meaning C) (ds : List Decision) (rs : List Row) (byte
   answer_holds = go (judge_refusal ds rs bytes) refl
     where
       verdict : Result C Breach
-      verdict = unless (breach_of the_book the_plan) (cost m the_book.prices the_plan)
+      verdict = error_or (breach_of the_book the_plan) (cost m the_book.prices the_plan)
 
-      go : (o : Option Refusal) → judge_refusal ds rs bytes ≡ o → Answered m ds rs bytes (unless o verdict)
+      go : (o : Option Refusal) → judge_refusal ds rs bytes ≡ o → Answered m ds rs bytes (error_or o verdict)
       go (Some e) h = h
       go None h =
-          let parts = or_else_none (open_refusal ds) (or_else (rows_refusal ds rs) (when (ltb (length bytes) (length ds)) ShortPlan)) h in
-          (h, judged_out parts.0 (or_else_none (rows_refusal ds rs) (when (ltb (length bytes) (length ds)) ShortPlan) parts.1).0)
+          let parts = option_or_none (open_refusal ds) (option_or (rows_refusal ds rs) (when (ltb (length bytes) (length ds)) ShortPlan)) h in
+          (h, judged_out parts.0 (option_or_none (rows_refusal ds rs) (when (ltb (length bytes) (length ds)) ShortPlan) parts.1).0)
 
   pub worked_out : (v : Result (Result C Breach) Refusal) → Answered m ds rs bytes v ↔ (v ≡ answer_of m ds rs bytes)
   worked_out v = (λ h. one_answer m ds rs bytes v (answer_of m ds rs bytes) h answer_holds, λ e. subst (Answered m ds rs bytes) (sym e) answer_holds)

@@ -1,8 +1,9 @@
 -- The shape of a rule, and what compose makes of its arguments.
 use Rattle.std.specs.Prelude.{ℕ, ◌+◌, ◌-◌, Bool, true, false, cond, not, ◌&&◌, ◌||◌, List, [], ◌∷◌, ◌++◌, length, drop, replicate, Option, ◌==◌, nat_le, nat_lt}
+use Rattle.std.specs.Option.{option_or}
 use Rattle.std.specs.List.{list_all}
 use Rattle.measure.specs.declared.price.Price.{Price}
-use Rattle.rules.specs.Refusals.{when, or_else}
+use Rattle.rules.specs.Refusals.{when}
 use Rattle.rules.specs.declared.literal.Literal.{Literal}
 use Rattle.rules.specs.declared.refusal.Refusal.{Refusal}
 use Rattle.rules.specs.declared.refusal.Refusal.TheVariants.{PairCount, NotAscending, CentsTooLarge}
@@ -37,8 +38,8 @@ is_price Priced = true
 -- why compose refuses, in the order of its checks
 abbrev pub compose_refusal : Kind → List Literal → Price → Option Refusal
 compose_refusal k ps price =
-    or_else (when (not (nat_le 1 (length ps) && nat_le (length ps) 4)) PairCount)
-    (or_else (when (not (ascends ps)) NotAscending) (when (is_price k && nat_lt 1000000000 price.cents) CentsTooLarge))
+    option_or (when (not (nat_le 1 (length ps) && nat_le (length ps) 4)) PairCount)
+    (option_or (when (not (ascends ps)) NotAscending) (when (is_price k && nat_lt 1000000000 price.cents) CentsTooLarge))
 
 -- no pair: what stands behind a rule's pairs
 abbrev pub blank : Literal

@@ -1,11 +1,12 @@
 -- What judge answers of decisions, rows and a plan.
 use Rattle.std.specs.Prelude.{◌≡◌, ℕ, ◌<◌, ◌≤◌, Bool, true, false, not, ◌&&◌, ◌||◌, List, [], ◌∷◌, length, take, Some, None, Ok, Err, filter, Option, Result, nat_le, nat_lt, slice_index_or}
+use Rattle.std.specs.Option.{option_or}
 use Rattle.std.specs.List.{AllByRecursion, list_all}
 use Rattle.measure.specs.Meaning.{Meaning}
 use Rattle.rules.specs.Compose.{is_forbid, is_activate, is_price}
 use Rattle.rules.specs.Conditions.{Plan, plan_of, met, condition}
 use Rattle.rules.specs.Plans.{Book, Active, Lawful, cost, size_at}
-use Rattle.rules.specs.Refusals.{when, or_else}
+use Rattle.rules.specs.Refusals.{when}
 use Rattle.rules.specs.declared.decision.Decision.{Decision}
 use Rattle.rules.specs.declared.literal.Literal.{Literal}
 use Rattle.rules.specs.declared.refusal.Refusal.{Refusal}
@@ -24,7 +25,7 @@ sized ds = list_all has_size ds
 
 -- why decisions are refused
 abbrev pub open_refusal : List Decision → Option Refusal
-open_refusal ds = or_else (when (nat_lt 64 (length ds)) TooManyDecisions) (when (not (sized ds)) SizeOutOfRange)
+open_refusal ds = option_or (when (nat_lt 64 (length ds)) TooManyDecisions) (when (not (sized ds)) SizeOutOfRange)
 
 -- every pair's decision is one of the first n
 abbrev pub known_decisions : ℕ → List Literal → Bool
@@ -41,17 +42,17 @@ known_values ds ls = list_all (known_value ds) ls
 -- why a row is refused beside these decisions: first the decisions of pairs and target, then the values
 abbrev pub row_refusal : List Decision → Row → Option Refusal
 row_refusal ds r =
-    or_else (when (not (known_decisions (length ds) (condition r) && (not (is_activate r.kind) || nat_lt r.target (length ds)))) UnknownDecision)
+    option_or (when (not (known_decisions (length ds) (condition r) && (not (is_activate r.kind) || nat_lt r.target (length ds)))) UnknownDecision)
     (when (not (known_values ds (condition r))) UnknownValue)
 
 -- why rows are refused: for the first that is
 abbrev pub rows_refusal : List Decision → List Row → Option Refusal
 rows_refusal ds [] = None
-rows_refusal ds (r ∷ rs) = or_else (row_refusal ds r) (rows_refusal ds rs)
+rows_refusal ds (r ∷ rs) = option_or (row_refusal ds r) (rows_refusal ds rs)
 
 -- why judging is refused, in the order of its checks
 abbrev pub judge_refusal : List Decision → List Row → List ℕ → Option Refusal
-judge_refusal ds rs bytes = or_else (open_refusal ds) (or_else (rows_refusal ds rs) (when (nat_lt (length bytes) (length ds)) ShortPlan))
+judge_refusal ds rs bytes = option_or (open_refusal ds) (option_or (rows_refusal ds rs) (when (nat_lt (length bytes) (length ds)) ShortPlan))
 
 -- decisions and rows as a book: the rows of each kind, in their order
 abbrev pub book_of : List Decision → List Row → Book

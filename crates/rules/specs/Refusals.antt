@@ -34,11 +34,6 @@ abbrev pub when : {X : Type 0} → Bool → X → Option X
 when true x = Some x
 when false x = None
 
--- the first of two answers that there is
-abbrev pub or_else : {X : Type 0} → Option X → Option X → Option X
-or_else (Some x) o = Some x
-or_else None o = o
-
 -- a refusal as the answer of a call that has nothing else to say
 abbrev pub as_result : {E : Type 0} → Option E → Result (Unit {0}) E
 as_result (Some e) = Err e

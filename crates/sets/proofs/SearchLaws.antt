@@ -1,7 +1,8 @@
 -- What the searches up to a bound find.
 use Rattle.std.proofs.Common.{◌≡◌, ℕ, zero, suc, ◌<◌, Bool, true, false, ◌||◌, Some, None, Option, sym, refl, ap, ◌∙◌, ap₂, inl, inr, not-suc-le-zero, arith}
+use Rattle.std.specs.Option.{option_or}
 use Rattle.std.proofs.lemmas.Bool.{cases_eq, or_cases, or_left, or_right}
-use Rattle.sets.specs.Searches.{some_below, or_else, unless, smallest_outside}
+use Rattle.sets.specs.Searches.{some_below, unless, smallest_outside}
 
 -- tests that agree below a bound find the same there
 pub some_below_same : (s t : ℕ → Bool) (n : ℕ) → ((k : ℕ) → k < n → s k ≡ t k) → some_below s n ≡ some_below t n
@@ -35,7 +36,7 @@ pub none_outside : (t : ℕ → Bool) (n : ℕ) → ((k : ℕ) → k < n → t (
 unfolding smallest_outside
 none_outside t zero all = refl
 none_outside t (suc n) all =
-    ap₂ (λ (o : Option ℕ) (b : Bool). or_else o (unless b (suc n))) (none_outside t n (λ k h. all k (omega arith))) (all n (omega arith))
+    ap₂ (λ (o : Option ℕ) (b : Bool). option_or o (unless b (suc n))) (none_outside t n (λ k h. all k (omega arith))) (all n (omega arith))
 
 -- the first of which a test fails is the smallest outside
 pub first_outside : (t : ℕ → Bool) (n z : ℕ) → z < n → ((k : ℕ) → k < z → t (suc k) ≡ true) → t (suc z) ≡ false → smallest_outside t n ≡ Some (suc z)
@@ -44,8 +45,8 @@ first_outside t zero z h all fails = absurd (not-suc-le-zero h)
 first_outside t (suc n) z h all fails =
     elim (cases_eq z n) [
       | inl same ↦
-          ap₂ (λ (o : Option ℕ) (b : Bool). or_else o (unless b (suc n)))
+          ap₂ (λ (o : Option ℕ) (b : Bool). option_or o (unless b (suc n)))
           (none_outside t n (λ k l. all k (omega arith))) (ap (λ (x : ℕ). t (suc x)) (sym same) ∙ fails)
           ∙ ap (λ (x : ℕ). Some (suc x)) (sym same)
-      | inr other ↦ ap (λ (o : Option ℕ). or_else o (unless (t (suc n)) (suc n))) (first_outside t n z (omega arith) all fails)
+      | inr other ↦ ap (λ (o : Option ℕ). option_or o (unless (t (suc n)) (suc n))) (first_outside t n z (omega arith) all fails)
     ]

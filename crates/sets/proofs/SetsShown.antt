@@ -12,7 +12,7 @@ bits_shown =
 searches_shown : SearchesShown
 unfolding bit values some_below smallest_outside count_outside
 searches_shown =
-    record { some = refl; none_below = refl; smallest = refl; first = refl; all_inside = refl; counted = refl; none_counted = refl }
+    record { some = refl; none_below = refl; smallest = refl; first = refl; at_bound = refl; all_inside = refl; counted = refl; none_counted = refl }
 
 pub sets_shown : SetsShown
 sets_shown = record { bits = bits_shown; searches = searches_shown }

@@ -4,7 +4,7 @@ use Rattle.std.specs.List.{range_with_len}
 use Rattle.sets.specs.Members.{members, values}
 use Rattle.sets.specs.Searches.{some_below, smallest_outside, count_outside}
 
--- the decisions in the set of these bits, sought past the last
+-- the decisions in the set of these bits, looked for up to 65, two past the last
 abbrev pub decisions : ℕ → List ℕ
 decisions n = filter (members (record { bits = n })) (range_with_len 0 66)
 
@@ -27,6 +27,7 @@ pub record SearchesShown : Type 0 where
   pub none_below : some_below (λ d. d == 3) 3 ≡ false
   pub smallest : smallest_outside (values (record { bits = 3 })) 5 ≡ Some 3
   pub first : smallest_outside (values (record { bits = 10 })) 3 ≡ Some 1
+  pub at_bound : smallest_outside (values (record { bits = 3 })) 3 ≡ Some 3
   pub all_inside : smallest_outside (values (record { bits = 7 })) 3 ≡ None
   pub counted : count_outside (values (record { bits = 10 })) 5 ≡ 3
   pub none_counted : count_outside (values (record { bits = 7 })) 3 ≡ 0

@@ -1,8 +1,9 @@
 -- The fields of a line: how many there are, and the first that is empty or too many.
 use Rattle.std.specs.Prelude.{ℕ, ◌+◌, Bool, true, cond, not, ◌||◌, List, [], ◌∷◌, length, Some, None, Option, nat_lt}
+use Rattle.std.specs.Option.{option_or}
 use Rattle.reading.specs.Cursors.{left_at}
 use Rattle.reading.specs.Pieces.{is_nil}
-use Rattle.rules.specs.Refusals.{or_else, when}
+use Rattle.rules.specs.Refusals.{when}
 use Rattle.statements.specs.declared.line.LineKind.{LineKind}
 use Rattle.statements.specs.declared.line.LineKind.TheVariants.{Decision, Forbid, Activate, Price}
 
@@ -32,4 +33,4 @@ first_bad k n c (f ∷ fs) = cond (is_nil f || not (takes_field k n)) (Some c) (
 -- the column of the first field that is empty, too many or missing, or of the missing end: what is missing stands one past the line
 abbrev pub field_fault : LineKind → Bool → List ℕ → Option ℕ
 field_fault k ended line =
-    or_else (first_bad k 0 3 (fields_of line)) (when (nat_lt (length (fields_of line)) (heads k) || not ended) (length line + 1))
+    option_or (first_bad k 0 3 (fields_of line)) (when (nat_lt (length (fields_of line)) (heads k) || not ended) (length line + 1))
