@@ -1,15 +1,16 @@
 -- What follows from the planning law.
-use Rattle.std.proofs.Common.{◌≡◌, ℕ, ◌+◌, ◌^◌, ◌<◌, ◌≤◌, Bool, true, cond, leb, List, [], ◌∷◌, ◌++◌, length, Some, None, sum_by, Option, sym, refl, ap, ◌∙◌, subst, arith}
+use Rattle.std.proofs.Common.{◌≡◌, ℕ, ◌+◌, ◌^◌, ◌<◌, ◌≤◌, Bool, true, false, cond, leb, List, [], ◌∷◌, ◌++◌, length, Some, None, sum_by, Option, sym, refl, ap, ◌∙◌, subst, arith}
 use Rattle.std.proofs.lemmas.Bool.{and_from, le-leb, le-ltb}
 use Rattle.std.proofs.lemmas.List.Sorted.{sum_by-IsPermutation}
 use Rattle.std.proofs.lemmas.Option.{none-some, same_Some}
 use Rattle.std.specs.List.{AllByRecursion}
 use Rattle.measure.specs.Meaning.{Meaning}
+use Rattle.rules.specs.Conditions.{Plan}
 use Rattle.rules.specs.Judging.{has_size, open_refusal, sized}
 use Rattle.rules.specs.Plans.{cost}
 use Rattle.rules.specs.declared.decision.Decision.{Decision}
 use Rattle.account.specs.Accounts.{Account, Best, Exclusion, fresh}
-use Rattle.account.specs.Calls.{Call, best, run, made, ran, reported, answer, after, history, steps_since, tally}
+use Rattle.account.specs.Calls.{Call, run, made, ran, answer, after, history, steps_since, tally}
 use Rattle.account.specs.Consequences.{Beside, Consequences, Excluded, Follows, Reordered, Reports}
 use Rattle.account.specs.Law.{Kept, OneCost, Planning, PlanningLaw, RulesOut, same_rule}
 use Rattle.account.specs.Changes.{held}

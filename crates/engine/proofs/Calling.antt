@@ -22,9 +22,9 @@ use Rattle.account.specs.Calls.{Answer, Call, add, add_refusal, after, after_if,
 use Rattle.account.specs.Changes.{added}
 use Rattle.account.specs.Steps.{advance}
 use Rattle.account.specs.declared.state.State.{State}
-use Rattle.engine.specs.Answered.{Planned, loaded, opened, outcome_of, planned, read_record, read_records, ruled, then, told, unless}
+use Rattle.engine.specs.Answered.{Planned, loaded, opened, outcome_of, planned, read_record, read_records, with_rule, then, told, refusal_or}
 use Rattle.engine.specs.Laws.{AnswersAsCalls, Called, answers, composing, stated}
-use Rattle.engine.specs.Stated.{Pieces, decisions_in, pairs_in, pieces_in, price_in, row_in}
+use Rattle.engine.specs.Stated.{Layout, decisions_in, pairs_in, layout_in, price_in, row_in}
 use Rattle.engine.specs.declared.fault.Fault.{Fault}
 use Rattle.engine.specs.declared.fault.Fault.TheVariants.{Malformed, Refused}
 
@@ -46,7 +46,7 @@ some_ok : {X E : Type 0} (o : Option X) (e : E) (x : X) → ok_or o e ≡ Ok x �
 some_ok (Some z) e x h = cc
 some_ok None e x h = cc
 
-unless_ok : {X : Type 0} (o : Option Refusal) (r : Result X Fault) (x : X) → unless o r ≡ Ok x → (o ≡ None) × (r ≡ Ok x)
+unless_ok : {X : Type 0} (o : Option Refusal) (r : Result X Fault) (x : X) → refusal_or o r ≡ Ok x → (o ≡ None) × (r ≡ Ok x)
 unless_ok (Some e) r x h = absurd (err_not (Refused e) x h)
 unless_ok None r x h = (refl, h)
 
@@ -69,13 +69,13 @@ chunks_bytes : (k : ℕ) (xs : List ℕ) → Bytes xs → AllByRecursion Bytes (
 chunks_bytes zero xs h = tt
 chunks_bytes (suc k) xs h = (take_bytes 16 xs h, chunks_bytes k (drop 16 xs) (drop_bytes 16 xs h))
 
-records_bytes : (book : List ℕ) (p : Pieces) → Bytes book → pieces_in book ≡ Some p → AllByRecursion Bytes p.records
+records_bytes : (book : List ℕ) (p : Layout) → Bytes book → layout_in book ≡ Some p → AllByRecursion Bytes p.records
 records_bytes [] p h e = absurd (none_not p e)
 records_bytes (n ∷ bytes) p h e =
     let rest = drop (2 * n) bytes in
     subst (λ (rs : List (List ℕ)). AllByRecursion Bytes rs) (sym (there _ _ e)) (chunks_bytes (length rest / 16) rest (drop_bytes (2 * n) bytes (λ j. h (suc j))))
   where
-    there : (t : Bool) (q : Pieces) → when t q ≡ Some p → p.records ≡ q.records
+    there : (t : Bool) (q : Layout) → when t q ≡ Some p → p.records ≡ q.records
     there true q h = cc
     there false q h = absurd (none_not p h)
 
@@ -132,7 +132,7 @@ module _ {C : Type 0} (m : Meaning C) where
   adding [] all a b h = record { rules = []; rules_are = refl; answers_are = λ cs. ap (λ (c : Account C). answers m c cs) (ok_same a b h) }
   adding (bytes ∷ records) all a b h =
       let (c, one, more) = then_ok (read_record m a bytes) (λ (x : Account C). read_records m x records) b h in
-      let (row, there, made) = then_ok (ok_or (row_in bytes) Malformed) (ruled m a) c one in
+      let (row, there, made) = then_ok (ok_or (row_in bytes) Malformed) (with_rule m a) c one in
       let row_is = some_ok (row_in bytes) Malformed row there in
       let (free, left) = unless_ok (option_or (compose_refusal row.kind (condition row) row.price) (add_refusal a (composing row))) (Ok (added m a row.kind (composing row))) c made in
       let (shaped, none) = option_or_none (compose_refusal row.kind (condition row) row.price) (add_refusal a (composing row)) free in
@@ -177,25 +177,25 @@ module _ (a : Account Cents) (budget : ℕ) (buffer : List ℕ) (fine : refusal 
 pub answers_as_calls : (book : List ℕ) (budget : ℕ) (buffer : List ℕ) → Bytes book → AnswersAsCalls book budget buffer
 answers_as_calls book budget buffer bytes p h =
     let (a, load, ending) = then_ok (loaded cents book) (λ (x : Account Cents). planned x budget buffer) p h in
-    let (pieces, framed, filled) = then_ok (ok_or (pieces_in book) Malformed) (λ (q : Pieces). then (opened q.decisions) (λ (x : Account Cents). read_records cents x q.records)) a load in
-    let (start, opens, reads) = then_ok (opened pieces.decisions) (λ (x : Account Cents). read_records cents x pieces.records) a filled in
-    let (ds, decided, started) = then_ok (ok_or (decisions_in pieces.decisions) Malformed) (λ (es : List Decision). unless (open_refusal es) (Ok (fresh es))) start opens in
+    let (layout, framed, filled) = then_ok (ok_or (layout_in book) Malformed) (λ (q : Layout). then (opened q.decisions) (λ (x : Account Cents). read_records cents x q.records)) a load in
+    let (start, opens, reads) = then_ok (opened layout.decisions) (λ (x : Account Cents). read_records cents x layout.records) a filled in
+    let (ds, decided, started) = then_ok (ok_or (decisions_in layout.decisions) Malformed) (λ (es : List Decision). refusal_or (open_refusal es) (Ok (fresh es))) start opens in
     let (free, is) = unless_ok (open_refusal ds) (Ok (fresh ds)) start started in
-    let pieces_are = some_ok (pieces_in book) Malformed pieces framed in
-    let rest = adding cents pieces.records (records_bytes book pieces bytes pieces_are) (fresh ds) a (ap (λ (x : Account Cents). read_records cents x pieces.records) (ok_same (fresh ds) start is) ∙ reads) in
+    let layout_is = some_ok (layout_in book) Malformed layout framed in
+    let rest = adding cents layout.records (records_bytes book layout bytes layout_is) (fresh ds) a (ap (λ (x : Account Cents). read_records cents x layout.records) (ok_same (fresh ds) start is) ∙ reads) in
     let b = after cents a (run budget) in
     let found : Planned = record { outcome = outcome_of (made cents budget a) b; plan = told b buffer } in
     let (none, same) = unless_ok (option_or (refusal a (run budget)) (refusal b (best buffer))) (Ok found) p ending in
     let (fine, long) = option_or_none (refusal a (run budget)) (refusal b (best buffer)) none in
     subst (Called book budget buffer) (ok_same found p same)
     (record {
-      pieces = pieces;
+      layout = layout;
       decisions = ds;
       rules = rest.rules;
       state = b.state;
       cost = option_map (λ (x : Best Cents). x.cost) b.best;
-      pieces_are = pieces_are;
-      decisions_are = some_ok (decisions_in pieces.decisions) Malformed ds decided;
+      layout_is = layout_is;
+      decisions_are = some_ok (decisions_in layout.decisions) Malformed ds decided;
       rules_are = rest.rules_are;
       opens = free;
       answers_are = rest.answers_are (run budget ∷ best buffer ∷ []) ∙ ap (λ (xs : List (Answer Cents)). map (λ (r : Rule). done) rest.rules ++ xs) (both_say a budget buffer fine long);

@@ -1,10 +1,10 @@
--- The pieces of a book of bytes.
+-- The layout of a book of bytes.
 use Rattle.std.proofs.lemmas.Grind.{common_steps}
 use Rattle.std.proofs.Common.{◌≡◌, ℕ, zero, suc, ◌+◌, ◌*◌, ◌/◌, ◌%◌, List, [], ◌∷◌, length, take, drop, Some, refl, ap, ◌∙◌, arith}
 use Rattle.std.proofs.lemmas.List.{drop-take}
 use Rattle.std.specs.List.{IsSplitAt}
 use Rattle.std.specs.Simd.{first_chunks}
-use Rattle.engine.specs.Stated.{pieces_in}
+use Rattle.engine.specs.Stated.{layout_in}
 
 -- what stands behind so many twos is no part of them
 twos : (k : ℕ) (xs : List ℕ) → first_chunks 2 k (take (2 * k) xs) ≡ first_chunks 2 k xs
@@ -25,7 +25,7 @@ twos (suc k) xs =
 
 -- bytes cut behind the decisions, with whole records there
 pub cut : (book : List ℕ) (n : ℕ) (bytes front back : List ℕ) → book ≡ n ∷ bytes → IsSplitAt bytes (2 * n) front back → length back % 16 ≡ 0
-    → Some (record { decisions = first_chunks 2 (length front / 2) front; records = first_chunks 16 (length back / 16) back }) ≡ pieces_in book
+    → Some (record { decisions = first_chunks 2 (length front / 2) front; records = first_chunks 16 (length back / 16) back }) ≡ layout_in book
 cut book n bytes front back is split whole =
     let half : length front / 2 ≡ n = omega (arith, split.3) in
     grind (arith, common_steps, twos n bytes)

@@ -11,7 +11,7 @@ use Rattle.rules.specs.declared.rule.Rule.{Rule}
 use Rattle.account.specs.Accounts.{Account}
 use Rattle.account.specs.Calls.{add, add_refusal, answer, answer_if, refused}
 use Rattle.account.specs.Changes.{added}
-use Rattle.engine.specs.Answered.{read_record, read_records, ruled, then, unless}
+use Rattle.engine.specs.Answered.{read_record, read_records, with_rule, then, refusal_or}
 use Rattle.engine.specs.Stated.{row_in}
 use Rattle.engine.specs.declared.fault.Fault.{Fault}
 use Rattle.engine.specs.declared.fault.Fault.TheVariants.{Malformed, Refused}
@@ -30,9 +30,9 @@ module _ {C : Type 0} (m : Meaning C) (a : Account C) where
       let ground : add_refusal a made ≡ Some e = ap (add_refusal a) (sym is) ∙ refused_on r e (add_refusal a r.row) answers in
       let left : Account C = added m a row.kind made in
       sym
-      (ap (λ (o : Option Row). then (ok_or o Malformed) (ruled m a)) (sym stated)
-      ∙ ap (λ (o : Option Refusal). unless (option_or o (add_refusal a made)) (Ok left)) accepted
-      ∙ ap (λ (o : Option Refusal). unless o (Ok left)) ground)
+      (ap (λ (o : Option Row). then (ok_or o Malformed) (with_rule m a)) (sym stated)
+      ∙ ap (λ (o : Option Refusal). refusal_or (option_or o (add_refusal a made)) (Ok left)) accepted
+      ∙ ap (λ (o : Option Refusal). refusal_or o (Ok left)) ground)
 
   module _ (rs : List (List ℕ)) (i : ℕ) (r : List ℕ) (l : i < length rs) where
     next : read_records m a (drop i rs) ≡ then (read_record m a (get_or rs i r)) (λ b. read_records m b (drop (i + 1) rs))

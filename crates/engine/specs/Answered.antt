@@ -15,7 +15,7 @@ use Rattle.account.specs.Calls.{add_refusal, after, best, made, refusal, run, wr
 use Rattle.account.specs.Changes.{added}
 use Rattle.account.specs.declared.state.State.{State}
 use Rattle.account.specs.declared.state.State.TheVariants.{Open, Settled}
-use Rattle.engine.specs.Stated.{decisions_in, pieces_in, row_in}
+use Rattle.engine.specs.Stated.{decisions_in, layout_in, row_in}
 use Rattle.engine.specs.declared.fault.Fault.{Fault}
 use Rattle.engine.specs.declared.fault.Fault.TheVariants.{Malformed, Refused}
 use Rattle.engine.specs.declared.outcome.Outcome.{Outcome}
@@ -35,10 +35,10 @@ abbrev pub then : {X Y E : Type 0} → Result X E → (X → Result Y E) → Res
 then (Ok x) f = f x
 then (Err e) f = Err e
 
--- a result, unless a call is refused before it
-abbrev pub unless : {X : Type 0} → Option Refusal → Result X Fault → Result X Fault
-unless (Some e) r = Err (Refused e)
-unless None r = r
+-- a result, refusal_or a call is refused before it
+abbrev pub refusal_or : {X : Type 0} → Option Refusal → Result X Fault → Result X Fault
+refusal_or (Some e) r = Err (Refused e)
+refusal_or None r = r
 
 -- a result, its value seen through a function
 abbrev pub on_ok : {X Y E : Type 0} → (X → Y) → Result X E → Result Y E
@@ -47,18 +47,18 @@ on_ok f (Err e) = Err e
 
 -- a planner opened over the decisions that bytes state
 abbrev pub opened : {C : Type 0} → List (List ℕ) → Result (Account C) Fault
-opened pairs = then (ok_or (decisions_in pairs) Malformed) (λ ds. unless (open_refusal ds) (Ok (fresh ds)))
+opened pairs = then (ok_or (decisions_in pairs) Malformed) (λ ds. refusal_or (open_refusal ds) (Ok (fresh ds)))
 
 module _ {C : Type 0} (m : Meaning C) where
   -- an account after the rule of a row: composed, then added
-  abbrev pub ruled : Account C → Row → Result (Account C) Fault
-  ruled a r =
+  abbrev pub with_rule : Account C → Row → Result (Account C) Fault
+  with_rule a r =
       let row = composed r.kind (condition r) r.target r.price in
-      unless (option_or (compose_refusal r.kind (condition r) r.price) (add_refusal a row)) (Ok (added m a r.kind row))
+      refusal_or (option_or (compose_refusal r.kind (condition r) r.price) (add_refusal a row)) (Ok (added m a r.kind row))
 
   -- an account after the rule that a record states
   abbrev pub read_record : Account C → List ℕ → Result (Account C) Fault
-  read_record a bytes = then (ok_or (row_in bytes) Malformed) (ruled a)
+  read_record a bytes = then (ok_or (row_in bytes) Malformed) (with_rule a)
 
   -- an account after the rules of records, one after the other up to the first fault
   unfoldable pub read_records : Account C → List (List ℕ) → Result (Account C) Fault
@@ -67,7 +67,7 @@ module _ {C : Type 0} (m : Meaning C) where
 
   -- the account that a book of bytes makes, or its first fault
   abbrev pub loaded : List ℕ → Result (Account C) Fault
-  loaded bytes = then (ok_or (pieces_in bytes) Malformed) (λ p. then (opened p.decisions) (λ a. read_records a p.records))
+  loaded bytes = then (ok_or (layout_in bytes) Malformed) (λ p. then (opened p.decisions) (λ a. read_records a p.records))
 
 -- whether a state is settled
 abbrev pub is_settled : State → Bool
@@ -86,7 +86,7 @@ told a buffer = option_map_or (λ b. written (length a.book.decisions) b.plan bu
 abbrev pub planned : Account Cents → ℕ → List ℕ → Result Planned Fault
 planned a budget buffer =
     let b = after cents a (run budget) in
-    unless (option_or (refusal a (run budget)) (refusal b (best buffer))) (Ok (record { outcome = outcome_of (made cents budget a) b; plan = told b buffer }))
+    refusal_or (option_or (refusal a (run budget)) (refusal b (best buffer))) (Ok (record { outcome = outcome_of (made cents budget a) b; plan = told b buffer }))
 
 -- what a book of bytes comes to, or its first fault
 abbrev pub answered : List ℕ → ℕ → List ℕ → Result Planned Fault

@@ -14,7 +14,7 @@ use Rattle.account.specs.Accounts.{Account, fresh}
 use Rattle.account.specs.Calls.{Answer, Call, add, after, answer, best, done, ran, reported, run}
 use Rattle.account.specs.declared.state.State.{State}
 use Rattle.engine.specs.Answered.{Planned, answered, is_settled}
-use Rattle.engine.specs.Stated.{Pieces, decisions_in, pieces_in, row_in}
+use Rattle.engine.specs.Stated.{Layout, decisions_in, layout_in, row_in}
 
 -- the row that composing makes of the parts of another
 abbrev pub composing : Row → Row
@@ -29,16 +29,16 @@ abbrev pub answers : {C : Type 0} → Meaning C → Account C → List Call → 
 answers m a [] = []
 answers m a (c ∷ cs) = answer m a c ∷ answers m (after m a c) cs
 
--- a book states decisions and rules, and a planner opened over the decisions answers to an add for each rule, a run and a best as it is told here
+-- a book states decisions and rules, and a planner opened over the decisions answers to an add for each rule, a run and a best with the steps, state, cost and plan that the book comes to
 pub record Called (book : List ℕ) (budget : ℕ) (buffer : List ℕ) (p : Planned) : Type 0 where
-  pub pieces : Pieces
+  pub layout : Layout
   pub decisions : List Decision
   pub rules : List Rule
   pub state : State
   pub cost : Option Cents
-  pub pieces_are : pieces_in book ≡ Some pieces
-  pub decisions_are : decisions_in pieces.decisions ≡ Some decisions
-  pub rules_are : map stated pieces.records ≡ map (λ (r : Rule). Some r.row) rules
+  pub layout_is : layout_in book ≡ Some layout
+  pub decisions_are : decisions_in layout.decisions ≡ Some decisions
+  pub rules_are : map stated layout.records ≡ map (λ (r : Rule). Some r.row) rules
   pub opens : open_refusal decisions ≡ None
   pub answers_are : answers cents (fresh decisions) (map add rules ++ run budget ∷ best buffer ∷ []) ≡ map (λ (r : Rule). done) rules ++ ran p.outcome.steps state ∷ reported state cost p.plan ∷ []
   pub cost_is : p.outcome.cost ≡ option_map_or (λ c. c.sum) cost 0

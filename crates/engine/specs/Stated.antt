@@ -10,7 +10,7 @@ use Rattle.rules.specs.declared.row.Kind.{Kind}
 use Rattle.rules.specs.declared.row.Kind.TheVariants.{Forbid, Activate, Price as Priced}
 use Rattle.rules.specs.declared.row.Row.{Row}
 
--- whether a byte marks a decision on
+-- the mark that a byte states, on or off; none above 1
 abbrev pub mark_in : ℕ → Option Bool
 mark_in zero = Some false
 mark_in (suc zero) = Some true
@@ -25,7 +25,7 @@ abbrev pub decisions_in : List (List ℕ) → Option (List Decision)
 decisions_in [] = Some []
 decisions_in (p ∷ ps) = option_and_then (λ d. option_map (λ ds. d ∷ ds) (decisions_in ps)) (decision_in p)
 
--- the kind of rule that a byte stands for
+-- the kind of rule that a byte states; none above 2
 abbrev pub kind_in : ℕ → Option Kind
 kind_in zero = Some Forbid
 kind_in (suc zero) = Some Activate
@@ -36,7 +36,7 @@ kind_in (suc (suc (suc n))) = None
 abbrev pub pairs_in : List ℕ → List Literal
 pairs_in bytes = map (λ k. record { decision = slice_index bytes k; value = slice_index bytes (k + 1) }) (2 ∷ 4 ∷ 6 ∷ 8 ∷ [])
 
--- the price of a record: its tier, and its cents in four bytes, the lowest first
+-- the price of a record: its tier, which no cost in cents shows, and its cents in four bytes, the lowest first
 abbrev pub price_in : List ℕ → Price
 price_in bytes = record { tier = slice_index bytes 11; cents = slice_index bytes 12 + 256 * (slice_index bytes 13 + 256 * (slice_index bytes 14 + 256 * slice_index bytes 15)) }
 
@@ -47,14 +47,14 @@ row_in bytes =
     (λ kind. when (nat_le (slice_index bytes 1) 4) (record { kind = kind; count = slice_index bytes 1; pairs = pairs_in bytes; target = slice_index bytes 10; price = price_in bytes }))
     (kind_in (slice_index bytes 0))
 
--- a book in pieces: two bytes for each decision, and 16 for each rule
-pub record Pieces : Type 0 where
+-- the layout of a book: two bytes for each decision, and 16 for each rule
+pub record Layout : Type 0 where
   pub decisions : List (List ℕ)
   pub records : List (List ℕ)
 
--- the pieces that bytes are, the number of decisions first; none if they are too few for those, or do not end with a record
-abbrev pub pieces_in : List ℕ → Option Pieces
-pieces_in [] = None
-pieces_in (n ∷ bytes) =
+-- the layout of bytes, the number of decisions first; none if they are too few for those, or do not end with a record
+abbrev pub layout_in : List ℕ → Option Layout
+layout_in [] = None
+layout_in (n ∷ bytes) =
     let rules = drop (2 * n) bytes in
     when (nat_le (2 * n) (length bytes) && length rules % 16 == 0) (record { decisions = first_chunks 2 n bytes; records = first_chunks 16 (length rules / 16) rules })

@@ -1,7 +1,7 @@
 -- What values of the code stand for.
-use Rattle.engine.specs.Stated.{Pieces}
-use Rattle.engine.specs.declared.parts.Parts.{Parts}
+use Rattle.engine.specs.Stated.{Layout}
+use Rattle.engine.specs.declared.layout.Layout.{Layout as Held}
 
--- the parts of a book
-abbrev pub pieces_of : Parts → Pieces
-pieces_of p = record { decisions = p.decisions.now; records = p.records.now }
+-- the layout that the code holds
+abbrev pub layout_as : Held → Layout
+layout_as p = record { decisions = p.decisions.now; records = p.records.now }

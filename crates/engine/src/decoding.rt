@@ -9,7 +9,7 @@ use rules::{Decision, Kind, Literal, MOST_PAIRS, Row};
 /// The most decisions that a byte can count.
 pub const MOST_STATED: usize = 255;
 
-/// Whether a mark states that a decision is on. The C interface writes a number for it.
+/// Whether a mark states that a decision is on; no mark is above 1. The C interface writes a number for it.
 fn is_on(mark: u8) -> Option<bool>
     ensures { result ≡ mark_in mark }
 {
@@ -20,7 +20,7 @@ fn is_on(mark: u8) -> Option<bool>
     }
 }
 
-/// The decision that a size and a mark state.
+/// The decision that a size and a mark state, if that is a mark.
 fn decision_of(stated: &[u8; 2]) -> Option<Decision>
     ensures { result ≡ decision_in stated.now }
 {
@@ -29,7 +29,7 @@ fn decision_of(stated: &[u8; 2]) -> Option<Decision>
     Some(Decision { size, on })
 }
 
-/// The decisions that are stated, each by a size and a mark.
+/// The decisions that are stated, each by a size and a mark; none if one is no mark.
 pub fn decisions_of(stated: &[[u8; 2]]) -> Option<ArrayVec<Decision, MOST_STATED>>
     requires few { length stated.now ≤ 255 }
     ensures { option_map (λ ds. ds.items) result ≡ decisions_in stated.now }
@@ -41,7 +41,7 @@ pub fn decisions_of(stated: &[[u8; 2]]) -> Option<ArrayVec<Decision, MOST_STATED
     Some(decisions)
 }
 
-/// The kind of rule that a byte states. The C interface writes a number for it.
+/// The kind of rule that a byte states; none above 2. The C interface writes a number for it.
 fn kind_of(byte: u8) -> Option<Kind>
     ensures { result ≡ kind_in byte }
 {
@@ -72,7 +72,8 @@ fn price_of(bytes: &[u8; 16]) -> Price
     }
 }
 
-/// The row that a record states, as it stands there: the planner has yet to see whether it makes a rule.
+/// The row that a record states, as it stands there; none if it is of no kind or of more than four pairs. The planner
+/// has yet to see whether it makes a rule.
 pub fn row_of(bytes: &[u8; 16]) -> Option<Row>
     ensures { result ≡ row_in bytes.now }
 {

@@ -7,9 +7,9 @@ ghost use Rattle.engine.specs.Laws.{AnswersAsCalls};
 
 mod decoding;
 mod fault;
+mod layout;
 mod loading;
 mod outcome;
-mod parts;
 mod running;
 mod shown;
 
@@ -18,9 +18,9 @@ use planner::Planner;
 use running::run_book;
 pub use shown::small_books;
 
-/// Makes a run of at most `budget` steps, of 1,000,000 at most, over a book of bytes. If a best is held, its plan is
-/// written, a byte for each decision; later bytes stay. Answers 0, or the number of the first fault: that of a refusal,
-/// or 255 for bytes that are no book. The plan and the outcome then stay as they were.
+/// Makes a run of at most `budget` steps over a book of bytes. If a best is held, its plan is written, a byte for each
+/// decision; later bytes stay. Answers 0, or the number of the first fault: that of a refusal, as of a budget above
+/// 1,000,000, or 255 for bytes that are no book. With a fault the plan and the outcome stay as they were.
 ///
 /// A book is the number of decisions; for each its size, and 1 if it is on, else 0; and 16 bytes for each rule: its
 /// kind (0 forbid, 1 activate, 2 price), its number of pairs, four pairs of decision and value, target, tier, and cents

@@ -6,7 +6,7 @@ ghost use Rattle.engine.specs.Answered.{loaded, on_ok, opened, read_record, read
 
 use crate::decoding::{decisions_of, row_of};
 use crate::fault::Fault;
-use crate::parts::parts_of;
+use crate::layout::layout_of;
 use measure::Cents;
 use planner::Planner;
 use rules::Rule;
@@ -46,7 +46,7 @@ fn read_rules(planner: &mut Planner<Cents>, records: &[[u8; 16]]) -> Result<(), 
 pub fn read_book(planner: &mut Planner<Cents>, book: &[u8]) -> Result<(), Fault>
     ensures { on_ok (λ u. account_of planner.new) result ≡ loaded cents book.now }
 {
-    let parts = parts_of(book).ok_or(Fault::Malformed)?;
-    read_decisions(planner, parts.decisions)?;
-    read_rules(planner, parts.records)
+    let layout = layout_of(book).ok_or(Fault::Malformed)?;
+    read_decisions(planner, layout.decisions)?;
+    read_rules(planner, layout.records)
 }

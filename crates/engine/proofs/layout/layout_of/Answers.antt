@@ -2,7 +2,7 @@ use Rattle.std.proofs.lemmas.Grind.{common_steps}
 use Rattle.std.proofs.Common.{◌≡◌, ℕ, ◌*◌, ◌%◌, length, subst, arith}
 use Rattle.std.specs.List.{IsSplitAt}
 use Rattle.engine.proofs.Framing.{cut}
-use Rattle.engine.proofs.parts.parts_of.Goals as goal
+use Rattle.engine.proofs.layout.layout_of.Goals as goal
 
 pub returns-clause-value : goal.returns-clause-value
 returns-clause-value c =

@@ -1,19 +1,19 @@
-//! The parts of a book of bytes.
+//! How a book of bytes is laid out.
 ghost use Rattle.std.specs.Prelude.{◌≡◌, ◌≤◌, length, IfSome, option_map};
-ghost use Rattle.engine.specs.Stated.{pieces_in};
-ghost use Rattle.engine.specs.Views.{pieces_of};
+ghost use Rattle.engine.specs.Stated.{layout_in};
+ghost use Rattle.engine.specs.Views.{layout_as};
 
-/// A book in parts: two bytes for each decision, and 16 for each rule.
+/// The layout of a book: two bytes for each decision, and 16 for each rule.
 #[derive(Clone, Copy)]
-pub struct Parts<'a> {
+pub struct Layout<'a> {
     pub decisions: &'a [[u8; 2]],
     pub records: &'a [[u8; 16]],
 }
 
-/// The parts of a book, the number of decisions first; none if the bytes are too few for those, or do not end with a
+/// The layout of a book, the number of decisions first; none if the bytes are too few for those, or do not end with a
 /// record.
-pub fn parts_of(book: &[u8]) -> Option<Parts<'_>>
-    ensures value { option_map pieces_of result ≡ pieces_in book.now }
+pub fn layout_of(book: &[u8]) -> Option<Layout<'_>>
+    ensures value { option_map layout_as result ≡ layout_in book.now }
     ensures few { IfSome result (λ p. length p.decisions.now ≤ 255) }
 {
     let (count, behind) = book.split_first()?;
@@ -23,5 +23,5 @@ pub fn parts_of(book: &[u8]) -> Option<Parts<'_>>
     if !rest.is_empty() {
         return None;
     }
-    Some(Parts { decisions, records })
+    Some(Layout { decisions, records })
 }
