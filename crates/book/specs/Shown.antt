@@ -79,7 +79,7 @@ pub record LeavingsShown : Type 0 where
   -- forbid rules are written first, then activate rules, then price rules
   pub written : book_text book.decisions (rows_of book) ≡ worked
 
--- what the words of the laws take in and leave out
+-- what the words of the laws take in, and what not
 pub record WordsShown : Type 0 where
   pub largest_size : ByteSized (on 255)
   pub largest_pair : BytePaired (ruled Forbid (pair 255 255) 0 free refl)

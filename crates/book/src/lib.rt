@@ -8,7 +8,7 @@ mod planning;
 mod shown;
 mod texts;
 
-pub use loading::{MOST_BYTES, ROOM, load};
+pub use loading::{BOOK_ROOM, MOST_BYTES, load};
 pub use outcome::{OUTCOME_ROOM, write_outcome};
 pub use planning::plan_book;
 pub use shown::small_texts;

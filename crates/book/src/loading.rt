@@ -17,8 +17,8 @@ use statements::{Fault, Line, Lines, read_line};
 /// The most bytes that a book may have.
 pub const MOST_BYTES: usize = 65_536;
 
-/// One byte more than a book may have, so that one too large is seen.
-pub const ROOM: usize = MOST_BYTES + 1;
+/// Room for any book and one byte more, so that one too large is seen.
+pub const BOOK_ROOM: usize = MOST_BYTES + 1;
 
 /// Reads a line and carries out what it states. `began` is whether a rule line came before; the answer, whether one has
 /// come by now.

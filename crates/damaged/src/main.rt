@@ -1,7 +1,7 @@
 //! Loads many books, most of them damaged, and prints the fault of each.
 #![tactic(auto)]
 
-use book::{FAULT_ROOM, ROOM, load, write_fault};
+use book::{BOOK_ROOM, FAULT_ROOM, load, write_fault};
 use frames::{Frames, repeat};
 use input::read_input;
 use measure::TierThenCents;
@@ -19,10 +19,10 @@ const FRAMES: usize = 1_000;
 
 /// Loads a book, and prints `accepted`, or its fault.
 fn show(rt: &HostRuntime, planner: &mut Planner<TierThenCents>, book: &[u8]) -> io::Result<()> {
-    let mut line = [0; FAULT_ROOM];
     match load(planner, book) {
         Ok(()) => rt.println("accepted"),
         Err(fault) => {
+            let mut line = [0; FAULT_ROOM];
             // Never refused: proved.
             let length = write_fault(fault, &mut line).unwrap();
             rt.stdout().write_all(&line[..length])
@@ -33,7 +33,7 @@ fn show(rt: &HostRuntime, planner: &mut Planner<TierThenCents>, book: &[u8]) -> 
 /// Shows the book of each frame.
 fn show_all(rt: &HostRuntime, frames: &[u8]) -> io::Result<()> {
     let mut planner = Planner::new();
-    let mut book = [0; ROOM];
+    let mut book = [0; BOOK_ROOM];
     for frame in Frames(frames).take(FRAMES) {
         let text = repeat(frame.part, frame.times, &mut book);
         show(rt, &mut planner, text)?;

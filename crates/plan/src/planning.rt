@@ -3,7 +3,7 @@ ghost use Rattle.std.specs.Prelude.{◌≡◌, ℕ, List, IfOk, IfSome};
 ghost use Rattle.measure.specs.Supplied.{cents, pair_of, tier};
 ghost use Rattle.book.specs.Outcomes.{plan_text};
 
-use book::{OUTCOME_ROOM, ROOM, plan_book};
+use book::{BOOK_ROOM, OUTCOME_ROOM, plan_book};
 use input::read_input;
 use planner::Planner;
 use std::io;
@@ -20,8 +20,9 @@ fn plan<'a>(book: &[u8], answer: &'a mut [u8; OUTCOME_ROOM]) -> &'a [u8]
     &answer[..length]
 }
 
-/// Reads a book from an input, plans it, and answers the text of its plan, or of its fault: an error is only ever the
-/// input's. Of an input whose bytes are known, all count, however many they are.
+/// Reads a book from an input, plans it, and answers the text of its plan, or of its fault. Of an input whose bytes are
+/// known, all count, however many they are.
+// An error is only ever the input's; of when a reader errs no contract says anything, so this one cannot either.
 pub fn plan_input<'a, R: Read>(
     input: &mut R,
     answer: &'a mut [u8; OUTCOME_ROOM],
@@ -29,7 +30,7 @@ pub fn plan_input<'a, R: Read>(
     ensures planned { IfOk result (λ text. (bytes : List ℕ) × (text.now ≡ plan_text (pair_of tier cents) bytes)) }
     ensures whole { IfOk result (λ text. IfSome (R.remaining input.old) (λ bytes. text.now ≡ plan_text (pair_of tier cents) bytes)) }
 {
-    let mut buffer = [0; ROOM];
+    let mut buffer = [0; BOOK_ROOM];
     let book = read_input(input, &mut buffer)?;
     Ok(plan(book, answer))
 }
