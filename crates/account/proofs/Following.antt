@@ -73,7 +73,7 @@ module _ {C : Type 0} (m : Meaning C) where
         let costs = costs_of cs in
         let kept = kept_of cs in
         let out : (r : Bool) (d v : ℕ) (e : Exclusion) → Excluded m a d v e → e.rests ≡ r → (p : Plan) → Beside m a d v e p → RulesOut m a r p =
-            λ r d v e h rests p b. subst (λ (x : Bool). RulesOut m a x p) rests (kept.exclusions_are_true d v e h p b.lawful b.has b.agrees) in
+        λ r d v e h rests p b. subst (λ (x : Bool). RulesOut m a x p) rests (kept.exclusions_are_true d v e h p b.lawful b.has b.agrees) in
         record {
           cheapest = λ c t. costs.least t.0 t.1 c t.2;
           hopeless = λ t. (costs.none t.0 t.1 None t.2).0 refl;
