@@ -41,7 +41,9 @@ fn show_all(rt: &HostRuntime, frames: &[u8]) -> io::Result<()> {
     Ok(())
 }
 
-fn main(rt: HostRuntime) -> io::Result<()> {
+// By `anyhow`, which shows an error of the input or the output in its own words.
+fn main(rt: HostRuntime) -> anyhow::Result<()> {
     let mut buffer = [0; INPUT];
-    show_all(&rt, read_input(&mut rt.stdin(), &mut buffer)?)
+    show_all(&rt, read_input(&mut rt.stdin(), &mut buffer)?)?;
+    Ok(())
 }

@@ -3,13 +3,14 @@
 
 use book::OUTCOME_ROOM;
 use planning::plan_input;
-use std::io;
 use std::io::Write;
 
 mod planning;
 
-fn main(rt: HostRuntime) -> io::Result<()> {
+// By `anyhow`, which shows an error of the input or the output in its own words.
+fn main(rt: HostRuntime) -> anyhow::Result<()> {
     let mut answer = [0; OUTCOME_ROOM];
     let text = plan_input(&mut rt.stdin(), &mut answer)?;
-    rt.stdout().write_all(text)
+    rt.stdout().write_all(text)?;
+    Ok(())
 }

@@ -1,16 +1,13 @@
 -- Which texts are numbers.
 use Rattle.std.proofs.lemmas.Grind.{common_steps}
-use Rattle.std.proofs.Common.{◌≡◌, ℕ, ◌+◌, ◌^◌, ◌<◌, ◌≤◌, Bool, true, false, cond, not, ◌&&◌, ltb, leb, List, [], ◌∷◌, length, get_or, Some, None, Ok, Err, Option, Result, decimal, sym, refl, ap, ◌∙◌, ⊎_elim, arith, rules}
+use Rattle.std.proofs.Common.{◌≡◌, ℕ, ◌+◌, ◌-◌, ◌*◌, ◌^◌, ◌<◌, ◌≤◌, Bool, true, false, not, ◌&&◌, ltb, leb, List, [], ◌∷◌, length, get_or, drop, Some, None, decimal, refl, sym, ap, ◌∙◌, ⊎_elim, arith, rules}
 use Rattle.std.specs.Bool.{then_some}
 use Rattle.std.specs.Char.{is_ascii_digit}
-use Rattle.std.specs.List.{list_all}
-use Rattle.std.specs.Result.{result_ok}
-use Rattle.std.specs.Str.{IsUtf8, all_ascii_digits}
-use Rattle.std.specs.Str.Parse.{ParsesUnsigned}
-use Rattle.std.proofs.lemmas.Str.{IsUtf8-from_ascii}
-use Rattle.std.proofs.lemmas.Bool.{and_from, and_parts, cases_lt, ne_eqb, ltb-true, and_left, and_right, cond-false, cond-true, le-leb, le-ltb, lt-leb, lt-ltb, not_from_false, not-true}
-use Rattle.std.proofs.lemmas.Fmt.{IsAscii-from_digits, decimal_digit, decimal_nonempty, decimal-digits_value, digits_decimal, first_decimal, digits_value-decimal}
-use Rattle.std.proofs.lemmas.Str.Parse.{IsNumeralModel, numerals_by_fold, parse_digits}
+use Rattle.std.specs.Str.{all_ascii_digits}
+use Rattle.std.proofs.lemmas.List.{at_drop_more, at_drop_all}
+use Rattle.std.proofs.lemmas.Bool.{and_cases, and_from, and_parts, cases_lt, leb-false, ne_eqb, ltb-true, and_left, and_right, cond-false, cond-true, le-leb, le-ltb, lt-leb, lt-ltb, not_from_false, not_from_true, not-true}
+use Rattle.std.proofs.lemmas.Fmt.{decimal_digit, decimal_nonempty, decimal-digits_value, digits_decimal, first_decimal, digits_value-decimal}
+use Rattle.std.proofs.lemmas.Str.Parse.{IsNumeralModel, numerals_by_fold}
 use Rattle.reading.specs.Numbers.{is_number, leading_zero, number_up_to, value, value_from}
 
 module _ (limit : ℕ) (ds : List ℕ) where
@@ -18,11 +15,17 @@ module _ (limit : ℕ) (ds : List ℕ) where
   unfolding number_up_to
   none e = sym (cond-false (is_number ds && leb (value ds) limit) _ None e)
 
-  pub none_if_no_number : is_number ds ≡ false → None ≡ number_up_to limit ds
+  none_if_no_number : is_number ds ≡ false → None ≡ number_up_to limit ds
   none_if_no_number e = none (and_left _ _ e)
 
   pub none_if_empty : length ds ≤ 0 → None ≡ number_up_to limit ds
   none_if_empty h = none_if_no_number (and_left _ _ (le-ltb 0 (length ds) h))
+
+  pub none_if_zero : leading_zero ds ≡ true → None ≡ number_up_to limit ds
+  none_if_zero e = none_if_no_number (and_right (ltb 0 (length ds)) _ (and_left _ _ (not_from_true _ e)))
+
+  none_if_other : all_ascii_digits ds ≡ false → None ≡ number_up_to limit ds
+  none_if_other e = none_if_no_number (and_right (ltb 0 (length ds)) _ (and_right (not (leading_zero ds)) _ e))
 
   none_if_large : limit < value ds → None ≡ number_up_to limit ds
   none_if_large h = none (and_right (is_number ds) _ (lt-leb (value ds) limit h))
@@ -35,33 +38,32 @@ module _ (limit : ℕ) (ds : List ℕ) where
 own : IsNumeralModel (λ (ds : List ℕ). all_ascii_digits ds ≡ true) value
 own = numerals_by_fold _ (search rules) value_from (search rules)
 
-pub digits_all : (ds : List ℕ) → list_all is_ascii_digit ds ≡ all_ascii_digits ds
-digits_all [] = refl
-digits_all (d ∷ ds) = ap (λ (t : Bool). is_ascii_digit d && t) (digits_all ds)
+-- more digits write no less
+value_rises : (n : ℕ) (cs : List ℕ) → n ≤ value_from n cs
+value_rises n [] = omega arith
+value_rises n (c ∷ cs) = omega (arith, value_rises (10 * n + (c - 48)) cs)
 
-all_digits : (ds : List ℕ) → is_number ds ≡ true → all_ascii_digits ds ≡ true
-all_digits ds is = (and_parts (not (leading_zero ds)) _ (and_parts (ltb 0 (length ds)) _ is).1).1
+not_some : (t : Bool) (n : ℕ) → None ≡ then_some t n → t ≡ false
+not_some true n e = grind (arith, common_steps)
+not_some false n e = refl
 
--- a number is a text that `parse` can be asked of
-pub is_text : (ds : List ℕ) → is_number ds ≡ true → IsUtf8 ds
-is_text ds is = IsUtf8-from_ascii ds (IsAscii-from_digits ds (own.to ds (all_digits ds is)))
+-- n is what the digits before place i write, and those from there on are all that tell whether a text is a number
+module _ (limit : ℕ) (ds : List ℕ) (n i : ℕ) (digits : all_ascii_digits ds ≡ all_ascii_digits (drop i ds)) (sum : value ds ≡ value_from n (drop i ds)) where
+  -- at a byte that is no digit, or that makes it too large, there is no number
+  pub none_at : i < length ds → None ≡ then_some (is_ascii_digit (get_or ds i 0) && leb (10 * n + (get_or ds i 0 - 48)) limit) (10 * n + (get_or ds i 0 - 48)) → None ≡ number_up_to limit ds
+  none_at l e =
+      ⊎_elim
+      (λ (other : is_ascii_digit (get_or ds i 0) ≡ false). none_if_other limit ds (digits ∙ at_drop_more all_ascii_digits ds i 0 l ∙ and_left _ _ other))
+      (λ (large : leb (10 * n + (get_or ds i 0 - 48)) limit ≡ false).
+      none_if_large limit ds (omega (arith, sum ∙ at_drop_more (value_from n) ds i 0 l, value_rises (10 * n + (get_or ds i 0 - 48)) (drop (i + 1) ds), leb-false _ limit large))) (and_cases _ _ (not_some _ _ e))
 
--- what `parse` reads, if it is at most a limit
-abbrev pub capped : ℕ → Option ℕ → Option ℕ
-capped limit None = None
-capped limit (Some n) = then_some (leb n limit) n
-
-pub capped_is : {E : Type 0} (limit : ℕ) (ds : List ℕ) (r : Result ℕ E) → limit < 2 ^ 32 → is_number ds ≡ true → ParsesUnsigned 32 10 ds r → capped limit (result_ok r) ≡ number_up_to limit ds
-unfolding number_up_to
-capped_is {E} limit ds (Ok n) small is h =
-    ap (λ (k : ℕ). then_some (leb k limit) k) (parse_digits own {E = E} 32 ds (Ok n) h (all_digits ds is)).1
-    ∙ then_some_is (leb (value ds) limit) (value ds)
-    ∙ ap (λ (t : Bool). cond (t && leb (value ds) limit) (Some (value ds)) None) (sym is)
-  where
-    then_some_is : (t : Bool) (n : ℕ) → then_some t n ≡ cond t (Some n) None
-    then_some_is true n = refl
-    then_some_is false n = refl
-capped_is limit ds (Err e) small is h = grind (arith, common_steps, none_if_large, own, all_digits)
+  -- at the end it is n
+  pub number_at : length ds ≤ i → 0 < length ds → leading_zero ds ≡ false → n ≤ limit → Some n ≡ number_up_to limit ds
+  number_at done some plain small =
+      let is : value ds ≡ n = sum ∙ at_drop_all (value_from n) ds i done in
+      ap Some (sym is)
+      ∙ number_is limit ds (and_from _ _ (lt-ltb 0 (length ds) some) (and_from _ _ (not_from_false _ plain) (digits ∙ at_drop_all all_ascii_digits ds i done)))
+      (omega (arith, is, small))
 
 plain_decimal : (n : ℕ) → n < 2 ^ 64 → leading_zero (decimal n) ≡ false
 plain_decimal n h =

@@ -1,8 +1,8 @@
 //! What a planner is asked, each question printed with its answer.
-use crate::shown::Members;
+use crate::shown::{Held, Members};
 use calling::Calls;
 use measure::Measure;
-use showing::{Answer, Spaced};
+use showing::Answer;
 use std::fmt::Display;
 use std::io;
 
@@ -15,8 +15,12 @@ pub fn best<M: Measure + Display>(
     let answer = calls.planner.best(buffer);
     match answer {
         Ok((state, Some(cost))) => {
-            print!(calls.rt; "best: {state}, plan {}", Spaced(buffer))?;
-            println!(calls.rt; ", cost {cost}")
+            let held = Held {
+                state,
+                plan: buffer,
+                cost,
+            };
+            println!(calls.rt; "best: {held}")
         }
         Ok((state, None)) => println!(calls.rt; "best: {state}, none"),
         Err(refusal) => println!(calls.rt; "best: {refusal}"),

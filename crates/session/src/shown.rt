@@ -1,4 +1,5 @@
 //! What the session prints, as text.
+use account::State;
 use arrayvec::ArrayVec;
 use rules::{Kind, MOST_DECISIONS, Row};
 use sets::DecisionSet;
@@ -14,6 +15,22 @@ impl fmt::Display for Members {
         let mut members = ArrayVec::<u8, MOST_DECISIONS>::new();
         members.extend((0..64).filter(|decision| self.0.has(*decision)))?;
         write!(f, "{{{}}}", Spaced(members.as_slice()))
+    }
+}
+
+/// A best that is held: how planning stands, the plan and its cost.
+#[derive(Clone, Copy)]
+pub struct Held<'a, M> {
+    pub state: State,
+    pub plan: &'a [u8],
+    pub cost: M,
+}
+
+impl<M: fmt::Display> fmt::Display for Held<'_, M> {
+    fn fmt<W: fmt::Write>(&self, f: &mut fmt::Formatter<W>) -> fmt::Result {
+        // In two: the proof of one `write!` of all three is not found.
+        write!(f, "{}, plan {}", self.state, Spaced(self.plan))?;
+        write!(f, ", cost {}", self.cost)
     }
 }
 

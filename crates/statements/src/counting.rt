@@ -24,15 +24,21 @@ impl KnownLine<'_> {
     fn is_short(&self) -> bool
         ensures { result ≡ (nat_lt (length (fields_of self.now.line.bytes.now)) (heads self.now.kind) || not self.now.line.ended) }
     {
-        self.fields().count() < self.kind.heads() || !self.line.ended
+        // As many fields as are asked for, and no more: a line may have thousands.
+        let heads = self.kind.heads();
+        self.fields().take(heads).count() < heads || !self.line.ended
     }
 
     /// The column of the first field that is empty, too many or missing, or of the missing end.
     fn faulty_column(&self) -> Option<usize>
         ensures { result ≡ field_fault self.now.kind self.now.line.ended self.now.line.bytes.now }
     {
-        let end = self.line.bytes.len() + 1;
-        self.rejected().or(self.is_short().then_some(end))
+        let rejected = self.rejected();
+        // By `if`: `or` would count on, and of what the closure of an `or_else` gives nothing would be known.
+        if rejected.is_some() {
+            return rejected;
+        }
+        self.is_short().then_some(self.line.bytes.len() + 1)
     }
 
     /// Refuses a line with a field that is empty, too many or missing, or without its end.

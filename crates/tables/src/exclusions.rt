@@ -191,6 +191,8 @@ impl Exclusions {
     }
 
     /// The excluded values of a decision that are spared.
+    // Apart from the loop over decisions: put into it, it makes the turns of those with nothing excluded slow.
+    #[inline(never)]
     fn spared_values(&self, d: u8, sparing: Sparing) -> ValueSet
         ensures { values result ≡ (λ v. not (is_free (keep_if (spared (members sparing.barred) sparing.resting) (exclusions_of self.now d v)))) }
     {

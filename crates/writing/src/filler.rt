@@ -1,15 +1,18 @@
 //! A sink that keeps what comes.
-ghost use Rattle.std.specs.Prelude.{◌≡◌};
+ghost use Rattle.std.specs.Prelude.{◌≡◌, false};
 ghost use Rattle.writing.specs.Sinks.{stored};
 
 use crate::Sink;
 
+mod standing;
+
 /// A buffer that is filled from its start, with the place of the next byte beside, since the buffer is lent and there
-/// is no heap for a vector. One that is full takes no more.
+/// is no heap for a vector. One that is full takes no more, and says that a byte was lost.
 #[derive(Drop)]
 pub struct Filler<'a> {
     buffer: &'a mut [u8],
     at: usize,
+    full: bool,
 }
 
 impl<'a> Filler<'a> {
@@ -17,8 +20,13 @@ impl<'a> Filler<'a> {
     pub fn new(buffer: &'a mut [u8]) -> Filler<'a>
         ensures same { result.buffer ≡ buffer.entry }
         ensures at_start { result.at ≡ 0 }
+        ensures none_lost { result.full ≡ false }
     {
-        Filler { buffer, at: 0 }
+        Filler {
+            buffer,
+            at: 0,
+            full: false,
+        }
     }
 }
 
@@ -29,6 +37,8 @@ impl<'a> Sink for Filler<'a> {
         if self.at < self.buffer.len() {
             self.buffer[self.at] = byte;
             self.at += 1;
+        } else {
+            self.full = true;
         }
     }
 }

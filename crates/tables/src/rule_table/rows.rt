@@ -6,8 +6,7 @@ ghost use Rattle.tables.specs.Tables.{table_rows};
 
 use crate::ShapedRow;
 use crate::rule_table::RuleTable;
-use arrayvec::ArrayVec;
-use rules::Row;
+use rules::{MOST_RULES, Row};
 
 impl RuleTable {
     /// A table of no rule.
@@ -15,7 +14,8 @@ impl RuleTable {
         ensures { table_rows result ≡ [] }
     {
         RuleTable {
-            rows: ArrayVec::new(),
+            rows: [Row::default(); MOST_RULES],
+            count: 0,
         }
     }
 
@@ -23,7 +23,7 @@ impl RuleTable {
     pub fn clear(&mut self)
         ensures { table_rows self.new ≡ [] }
     {
-        self.rows.clear();
+        self.count = 0;
     }
 
     /// The rows, in place order.
@@ -33,14 +33,14 @@ impl RuleTable {
         ensures shapes { all_shaped result.now ≡ true }
         ensures few { length result.now ≤ 256 }
     {
-        self.rows.as_slice()
+        &self.rows[0..self.count]
     }
 
     /// How many rules there are.
     pub fn len(&self) -> usize
         ensures { result ≡ length (table_rows self.now) }
     {
-        self.rows.len()
+        self.rows().len()
     }
 
     /// Puts one more rule behind the others.
@@ -49,7 +49,8 @@ impl RuleTable {
         requires { length (table_rows self.old) < 256 }
         ensures { table_rows self.new ≡ table_rows self.old ++ shaped.row ∷ [] }
     {
-        self.rows.push(shaped.row);
+        self.rows[self.count] = shaped.row;
+        self.count += 1;
     }
 
     /// Takes a rule out; those behind it move down by one.
@@ -58,6 +59,7 @@ impl RuleTable {
         requires { place < length (table_rows self.old) }
         ensures { table_rows self.new ≡ remove (table_rows self.old) place }
     {
-        self.rows.remove(place);
+        self.rows.copy_within(place + 1..self.count, place);
+        self.count -= 1;
     }
 }

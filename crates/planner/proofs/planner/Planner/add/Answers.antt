@@ -1,5 +1,4 @@
-use Rattle.std.proofs.lemmas.Grind.{common_steps}
-use Rattle.std.proofs.Common.{rules, sym, refl, arith}
+use Rattle.std.proofs.Common.{rules, sym, refl}
 use Rattle.std.proofs.lemmas.Result.{err_from_is_err_and}
 use Rattle.account.specs.Calls.{add}
 use Rattle.account.specs.Changes.{held}
@@ -45,7 +44,17 @@ returns-in-Forbid g c =
     record { value = told; after = left }
 
 pub returns-in-Activate : goal.returns-in-Activate
-returns-in-Activate g c = grind (arith, common_steps, activate_added, rule_left, accepted_none)
+returns-in-Activate g c =
+    let m = g.M.Measure.meaning in
+    let a = account_of c.args.self.now in
+    let row = c.row-row.result in
+    let ds = c.decisions.result.now in
+    let x = account_of c.reopen_rejudged.new.self in
+    let changed = activate_added m a x (book_of c.add.new.self) row row.kind c.in-Activate.is c.add.ensures c.reopen_rejudged.ensures in
+    let (told, left) =
+    rule_left m a c.args.rule.now row ds (held a.book row.kind) c.row-row.ensures c.decisions.ensures.value refl x
+    (accepted_none (row_refusal ds row) _ (sym c.in_ok-check_row.ensures)) (search rules) changed in
+    record { value = told; after = left }
 
 pub returns-in-Price : goal.returns-in-Price
 returns-in-Price g c =
